@@ -1,0 +1,55 @@
+use Rattle.std.proofs.Common.{◌≡◌, ◌≢◌, ◌<◌, ◌≤◌, List, reverse, sym, ◌∙◌, ap, subst, arith, Bool, true}
+use Rattle.std.specs.Prelude.{Contains}
+use Rattle.causal_base.specs.declared.entry.Entry.{Entry}
+use Rattle.causal_base.specs.declared.event.Event.{Event}
+use Rattle.causal_base.specs.declared.event_id.EventId.{EventId}
+use Rattle.causal_base.specs.Types.{TypeTable}
+use Rattle.causal_base.specs.History.{count_on}
+use Rattle.causal_base.specs.Past.{came, delivered, HasEvent}
+use Rattle.causal_base.specs.Asked.{SaysWhetherBefore}
+use Rattle.causal_base.specs.Marking.{HasPast}
+use Rattle.causal_base.specs.PlainList.{IsOpenJournal}
+use Rattle.causal_base.proofs.Pasts.{came_fit, delivered_came}
+use Rattle.causal_base.proofs.Ready.{delivered_from_number, number_from_delivered}
+
+module _ (types : TypeTable) (journal : List Entry) (kept : IsOpenJournal types journal) where
+  -- an event that came has a trace that is counted
+  pub came_trace : (id : EventId) (e : Event) → Contains (came (reverse journal)) e → e.id ≡ id → id.trace < 256
+  came_trace id e there is =
+      let range = (came_fit types (reverse journal) kept.legal e there).id in
+      let below = subst (λ (i : EventId). i.trace < types.traces) is range.trace in
+      omega (arith, below, kept.table.most_traces)
+
+  -- an id up to the count of its trace is a delivered event's
+  pub event_delivered : (id : EventId) (e : Event) → Contains (came (reverse journal)) e → e.id ≡ id → id.number ≤ count_on id.trace (delivered (reverse journal)) → Contains (delivered (reverse journal)) e
+  event_delivered id e there is most =
+      delivered_from_number types (reverse journal) kept.legal e there (subst (λ (i : EventId). i.number ≤ count_on i.trace (delivered (reverse journal))) (sym is) most)
+
+  -- a number above the count of its trace is none of a delivered event
+  pub not_delivered : (id : EventId) → count_on id.trace (delivered (reverse journal)) < id.number → HasEvent (delivered (reverse journal)) id → ⊥
+  not_delivered id above there =
+      let most = number_from_delivered types (reverse journal) kept.legal there.0 there.1 in
+      let below = subst (λ (i : EventId). i.number ≤ count_on i.trace (delivered (reverse journal))) there.2 most in
+      omega (arith, below, above)
+
+  pub none_delivered : (id : EventId) → (HasEvent (came (reverse journal)) id → ⊥) → HasEvent (delivered (reverse journal)) id → ⊥
+  none_delivered id none there = none (there.0, delivered_came types (reverse journal) kept.legal there.0 there.1, there.2)
+
+  -- another event is before one exactly where it is in its past
+  pub says_other : (a b : EventId) (x y : Event) → Contains (delivered (reverse journal)) x → x.id ≡ a → Contains (delivered (reverse journal)) y → y.id ≡ b → a ≢ b → (is_marked : EventId → Bool) → HasPast types (delivered (reverse journal)) y is_marked → SaysWhetherBefore types (delivered (reverse journal)) a b (is_marked a)
+  says_other a b x y in_x is_a in_y is_b other is_marked past = record {
+    first = x;
+    first_among = in_x;
+    first_id = is_a;
+    second = y;
+    second_among = in_y;
+    second_id = is_b;
+    says = (
+      (λ yes. record {
+        reaches = (past x in_x).0 (subst (λ i. is_marked i ≡ true) (sym is_a) yes);
+        different = λ same. other (sym is_a ∙ ap (λ (e : Event). e.id) same ∙ is_b);
+        apart = λ pairs. kept.no_pairs x.type_no pairs.first;
+      }),
+      (λ before. subst (λ i. is_marked i ≡ true) is_a ((past x in_x).1 before.reaches)),
+    );
+  }

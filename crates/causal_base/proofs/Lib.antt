@@ -1,0 +1,17 @@
+pub mod Members
+pub mod Ids
+pub mod Numbered
+pub mod Histories
+pub mod Pasts
+pub mod Journals
+pub mod Indexes
+pub mod Pigeons
+pub mod Ready
+pub mod Steps
+pub mod Offers
+pub mod Marks
+pub mod GoingBack
+pub mod Answering
+pub mod Cuts
+pub mod Decimals
+pub mod IdTexts

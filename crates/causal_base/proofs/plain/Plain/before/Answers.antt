@@ -1,0 +1,30 @@
+use Rattle.std.proofs.Common.{◌≡◌, ◌≢◌, sym, ◌∙◌, subst, true, false}
+use Rattle.std.specs.Prelude.{Contains}
+use Rattle.std.specs.BTreeSet.{contains}
+use Rattle.causal_base.specs.Past.{is_same_id}
+use Rattle.causal_base.specs.Journal.{delivered_by}
+use Rattle.causal_base.specs.Index.{id_cmp}
+use Rattle.causal_base.specs.Asked.{SaysWhetherBefore}
+use Rattle.causal_base.specs.Marking.{HasPast}
+use Rattle.causal_base.specs.PlainList.{TypedJournal, IsOpenJournal}
+use Rattle.causal_base.proofs.Ids.{is_same_id-same}
+use Rattle.causal_base.proofs.Answering.{says_other}
+use Rattle.causal_base.proofs.plain.Plain.before.Goals as goal
+
+pub returns : goal.returns
+returns c =
+    let p = c.self.inside in
+    let v = c.args.self.now in
+    let x = c.in-Some._first.now in
+    let y = c.in-Some-event._second.now in
+    let is_marked = contains id_cmp c.in_ok-past.past in
+    let kept = subst (λ (w : TypedJournal). IsOpenJournal w.types w.journal) c.self.view_is c.self.invariant.0 in
+    let there = subst (λ (w : TypedJournal). Contains (delivered_by w.journal) y) (sym c.self.view_is) c.in-Some-event.ensures.some.0 in
+    let past = subst (λ (w : TypedJournal). HasPast w.types (delivered_by w.journal) y is_marked) c.self.view_is
+    (c.in_ok-past.ensures p.types y c.self.invariant.0 there c.in-Some-event.ensures.some.1) in
+    let other : c.args.a ≢ c.args.b = λ same.
+    let yes = subst (λ i. is_same_id c.args.a i ≡ true) same (is_same_id-same c.args.a) in
+    let clash : true ≡ false = sym yes ∙ sym c.eq.ensures ∙ c.if-eq.false in
+    cc in
+    subst (SaysWhetherBefore v.types (delivered_by v.journal) c.args.a c.args.b) (sym c.contains.ensures)
+    (says_other v.types v.journal kept c.args.a c.args.b x y c.in-Some.ensures.some.0 c.in-Some.ensures.some.1 c.in-Some-event.ensures.some.0 c.in-Some-event.ensures.some.1 other is_marked past)

@@ -1,0 +1,16 @@
+use Rattle.std.proofs.Common.{◌≡◌, ◌*◌, ◌-◌, ◌++◌, List, length, reverse}
+use Rattle.std.specs.List.{AllByRecursion}
+use Rattle.causal_base.specs.declared.entry.Entry.{Entry}
+use Rattle.causal_base.specs.InTurn.{DeliversSomething}
+use Rattle.causal_base.specs.Past.{came}
+use Rattle.causal_base.specs.PlainList.{IsOpenJournal}
+use Rattle.causal_base.proofs.plain.settle.Given as goal
+
+abbrev pub invariant-loop-id : goal.invariant-loop-id
+invariant-loop-id l = record {
+  kept : IsOpenJournal l.types l.journal;
+  more : (more : List Entry) × (l.journal ≡ l.initial.journal ++ more) × AllByRecursion DeliversSomething more;
+}
+
+abbrev pub decreases-loop-id : goal.decreases-loop-id
+decreases-loop-id l = 2 * length (came (reverse l.journal)) - length l.journal

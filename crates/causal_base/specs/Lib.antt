@@ -1,0 +1,15 @@
+pub mod Types
+pub mod Event
+pub mod Walks
+pub mod Clocks
+pub mod History
+pub mod Past
+pub mod Journal
+pub mod Index
+pub mod PlainList
+pub mod Marking
+pub mod InTurn
+pub mod Asked
+pub mod Spelling
+pub mod Fields
+pub mod TypeTables

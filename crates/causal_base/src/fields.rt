@@ -1,0 +1,182 @@
+ghost use Rattle.std.specs.Prelude.{◌≡◌, ◌≢◌, ℕ, ◌↔◌, All, IsTrue, IfSome, IfNone, IfOk, IfErr};
+ghost use Rattle.std.specs.List.{list_all};
+ghost use Rattle.causal_base.specs.Fields.{HasIdFault, IsCut, IsIdInRange, IsNoId};
+ghost use Rattle.causal_base.specs.Spelling.{IsId, IsName, IsNumber, is_letter, is_name_byte};
+
+use crate::event_id::EventId;
+
+/// The greatest number that an event may have within its trace.
+const MOST_NUMBER: u64 = 1_000_000;
+
+/// Why bytes don't name an event of a given number of traces.
+#[derive(Clone, Copy, Debug, PartialEq, Eq)]
+pub enum IdFault {
+    /// They aren't two numbers with a full stop between them.
+    BadId,
+    /// They name a trace that there isn't.
+    NoTrace,
+    /// The event's number isn't from 1 to 1,000,000.
+    BadNumber,
+}
+
+/// What stands before the first separator, and what stands after it. None where the bytes have no separator.
+pub fn cut(bytes: &[u8], separator: u8) -> Option<(&[u8], &[u8])>
+    ensures found { IfSome result (λ parts. IsCut separator bytes.now parts.0.now parts.1.now) }
+    ensures none { IfNone result (All (λ byte. byte ≢ separator) bytes.now) }
+{
+    for (index, byte) in bytes.iter().enumerate() {
+        if *byte == separator {
+            return Some((&bytes[..index], &bytes[index + 1..]));
+        }
+    }
+    None
+}
+
+/// The number that the bytes spell in decimal: `0`, or a digit from 1 to 9 and at most 17 digits after it.
+/// None where they are anything else.
+pub fn number_of(bytes: &[u8]) -> Option<u64>
+    ensures found { IfSome result (λ n. IsNumber bytes.now n) }
+    ensures none { IfNone result ((n : ℕ) → IsNumber bytes.now n → ⊥) }
+{
+    if bytes.is_empty() || bytes.len() > 18 {
+        return None;
+    }
+    if bytes[0] == b'0' && bytes.len() > 1 {
+        return None;
+    }
+    let mut number = 0u64;
+    for byte in bytes {
+        if !byte.is_ascii_digit() {
+            return None;
+        }
+        number = number * 10 + u64::from(*byte - b'0');
+    }
+    Some(number)
+}
+
+/// Whether the bytes are a name: an ASCII letter, and at most 31 ASCII letters, digits and `_` after it.
+pub fn is_name(bytes: &[u8]) -> bool
+    ensures { IsTrue result ↔ IsName bytes.now }
+{
+    let Some((first, others)) = bytes.split_first() else {
+        return false;
+    };
+    is_letter(*first) && others.len() <= 31 && are_name_bytes(others)
+}
+
+/// Whether a name may begin with this byte.
+fn is_letter(byte: u8) -> bool
+    ensures { result ≡ is_letter byte }
+{
+    byte.is_ascii_alphabetic()
+}
+
+/// Whether a name may have these bytes after its first.
+fn are_name_bytes(bytes: &[u8]) -> bool
+    ensures { result ≡ list_all is_name_byte bytes.now }
+{
+    bytes.iter().all(|byte| is_name_byte(*byte))
+}
+
+/// Whether a name may have this byte after its first.
+fn is_name_byte(byte: u8) -> bool
+    ensures { result ≡ is_name_byte byte }
+{
+    byte.is_ascii_alphanumeric() || byte == b'_'
+}
+
+/// The event that the bytes name, as `2.17` for the event 17 of the trace 2, out of so many traces.
+///
+/// The faults come in the order of [`IdFault`]: `BadId` where the bytes are no id, `NoTrace` where its trace is
+/// none of the traces, and `BadNumber` where the trace is one, but the number isn't from 1 to 1,000,000.
+pub fn id_of(bytes: &[u8], traces: u32) -> Result<EventId, IdFault>
+    ensures ok { IfOk result (IsIdInRange bytes.now traces) }
+    ensures err { IfErr result (HasIdFault bytes.now traces) }
+{
+    let Some((trace, number)) = id_numbers(bytes) else {
+        return Err(IdFault::BadId);
+    };
+    if trace >= u64::from(traces) {
+        return Err(IdFault::NoTrace);
+    }
+    if number == 0 || number > MOST_NUMBER {
+        return Err(IdFault::BadNumber);
+    }
+    Ok(EventId {
+        trace: trace as u32,
+        number: number as u32,
+    })
+}
+
+/// The trace and the number of an id, in range or not.
+fn id_numbers(bytes: &[u8]) -> Option<(u64, u64)>
+    ensures found { IfSome result (λ id. IsId bytes.now id.0 id.1) }
+    ensures none { IfNone result (IsNoId bytes.now) }
+{
+    let (trace, number) = cut(bytes, b'.')?;
+    Some((number_of(trace)?, number_of(number)?))
+}
+
+#[cfg(test)]
+mod tests {
+    use super::*;
+
+    #[test]
+    fn reads_fields(rt: HostRuntime) {
+        let numbers: [(&[u8], Option<u64>); 9] = [
+            (b"0", Some(0)),
+            (b"7", Some(7)),
+            (b"10", Some(10)),
+            (b"999999999999999999", Some(999_999_999_999_999_999)),
+            (b"1000000000000000000", None),
+            (b"01", None),
+            (b"", None),
+            (b"1x", None),
+            (b"-1", None),
+        ];
+        for (bytes, want) in numbers {
+            assert_eq!(rt; number_of(bytes), want, "{bytes:?}");
+        }
+
+        let names: [(&[u8], bool); 7] = [
+            (b"a", true),
+            (b"abcdefghijklmnopqrstuvwxyz_01234", true),
+            (b"abcdefghijklmnopqrstuvwxyz_012345", false),
+            (b"_a", false),
+            (b"a_1", true),
+            (b"1a", false),
+            (b"", false),
+        ];
+        for (bytes, want) in names {
+            assert_eq!(rt; is_name(bytes), want, "{bytes:?}");
+        }
+
+        let ids: [(&[u8], Result<EventId, IdFault>); 10] = [
+            (
+                b"0.1",
+                Ok(EventId {
+                    trace: 0,
+                    number: 1,
+                }),
+            ),
+            (
+                b"0.1000000",
+                Ok(EventId {
+                    trace: 0,
+                    number: 1_000_000,
+                }),
+            ),
+            (b"0.1000001", Err(IdFault::BadNumber)),
+            (b"0.0", Err(IdFault::BadNumber)),
+            (b"7.1", Err(IdFault::NoTrace)),
+            (b"0.01", Err(IdFault::BadId)),
+            (b"0.1.2", Err(IdFault::BadId)),
+            (b".1", Err(IdFault::BadId)),
+            (b"0.", Err(IdFault::BadId)),
+            (b"x", Err(IdFault::BadId)),
+        ];
+        for (bytes, want) in ids {
+            assert_eq!(rt; id_of(bytes, 7), want, "{bytes:?}");
+        }
+    }
+}

@@ -1,0 +1,147 @@
+ghost use Rattle.std.specs.Prelude.{◌≡◌, ◌≢◌, ◌⊎◌, ◌+◌, ◌<◌, ◌↔◌, [], ◌∷◌, ◌++◌, List, length, reverse, Contains, IfOk, IfSome, IfNone, OnOk, OnErr};
+ghost use Rattle.causal_base.specs.declared.entry.Entry.TheVariants.{Came, Gone};
+ghost use Rattle.causal_base.specs.Event.{IsFit};
+ghost use Rattle.causal_base.specs.Past.{came, delivered, HasEvent};
+ghost use Rattle.causal_base.specs.Journal.{came_by, delivered_by};
+ghost use Rattle.causal_base.specs.InTurn.{SettlesTo};
+ghost use Rattle.causal_base.specs.Asked.{IsBeforeAnswer};
+ghost use Rattle.causal_base.specs.PlainList.{HasNoPairs, IsOpenJournal};
+
+use crate::answer::Answer;
+use crate::enabled::next;
+use crate::event::Event;
+use crate::event_id::EventId;
+use crate::indexed_journal::IndexedJournal;
+use crate::past::past_of;
+use crate::refusal::Refusal;
+use crate::types::Types;
+use std::alloc::{AllocError, Global};
+use std::marker::Model;
+
+/// How many events a plain list accepts at most.
+pub const MOST_EVENTS: u32 = 10_000;
+
+/// The plain list: a journal of one collector's events and nothing derived from causes. It delivers what is
+/// enabled as soon as an event comes, and answers by going back through the journal. It is the
+/// yardstick for what answers faster. Contracts see it as its types and its journal, which is
+/// legal and settled.
+#[derive(Debug, Drop)]
+pub struct Plain {
+    types: Types,
+    journal: IndexedJournal,
+}
+
+impl Model for Plain {
+    ghost use Rattle.causal_base.specs.Journal.{IsSettled};
+    ghost use Rattle.causal_base.specs.PlainList.{TypedJournal, IsOpenJournal};
+
+    ghost Value = { TypedJournal };
+
+    ghost view = { λ p. record { types = p.types; journal = p.journal } };
+
+    ghost invariant = { λ p. IsOpenJournal p.types p.journal × IsSettled p.types p.journal };
+}
+
+impl Plain {
+    /// A list without events, for types none of which pairs.
+    pub fn new(alloc: Global, types: Types) -> Plain
+        requires { HasNoPairs types }
+        ensures { result ≡ record { types = types; journal = [] } }
+    {
+        // Reading the number of traces shows that the types are a table.
+        let _traces = types.traces();
+        Plain {
+            types,
+            journal: IndexedJournal::new(alloc),
+        }
+    }
+
+    /// Accepts an event, which is fit for the types, and delivers all that is enabled then. It is refused as a
+    /// repeat where an equal event was accepted, as a clash where a different one of its id was, else as full where
+    /// [`MOST_EVENTS`] were, and where memory runs out. A refused event is dropped, and the list stays as it was.
+    pub fn offer(&mut self, event: Event) -> Result<(), Refusal>
+        requires { IsFit self.old.types event }
+
+        ensures repeat { (result ≡ Err Refusal.Repeat) ↔ Contains (came_by self.old.journal) event }
+        ensures clash { (result ≡ Err Refusal.Clash) ↔ (HasEvent (came_by self.old.journal) event.id × ¬ Contains (came_by self.old.journal) event) }
+        ensures full { (result ≡ Err Refusal.Full) ↔ ((¬ HasEvent (came_by self.old.journal) event.id) × (length (came_by self.old.journal) ≡ MOST_EVENTS)) }
+
+        // A new event comes, and everything enabled is delivered.
+        ensures new { OnOk result ((¬ HasEvent (came_by self.old.journal) event.id) × (length (came_by self.old.journal) < MOST_EVENTS)) }
+        ensures delivers { OnOk result (SettlesTo self.old.types (self.old.journal ++ Came 0 event ∷ []) self.new.journal) }
+
+        ensures types { self.new.types ≡ self.old.types }
+        ensures err { OnErr result (self.new ≡ self.old) }
+    {
+        if let Some(known) = self.journal.event(event.id) {
+            return Err(refusal_of_known(known, &event));
+        }
+        if self.journal.accepted() == MOST_EVENTS {
+            return Err(Refusal::Full);
+        }
+        match self.journal.push_came(event) {
+            Ok(()) => {
+                settle(&self.types, &mut self.journal);
+                Ok(())
+            }
+            Err(_) => Err(Refusal::Oom),
+        }
+    }
+
+    /// The delivered event with this id, or none where none is delivered.
+    pub fn event(&self, id: EventId) -> Option<&Event>
+        ensures some { IfSome result (λ e. Contains (delivered_by self.now.journal) e.now × (e.now.id ≡ id)) }
+        ensures none { IfNone result (¬ HasEvent (delivered_by self.now.journal) id) }
+    {
+        match self.journal.event(id) {
+            Some(event) => {
+                if id.number <= self.journal.delivered_on(id.trace) {
+                    Some(event)
+                } else {
+                    None
+                }
+            }
+            None => None,
+        }
+    }
+
+    /// Whether the event a happened before the event b, or the first of the two that isn't delivered. It goes
+    /// back through the journal once.
+    pub fn before(&self, alloc: Global, a: EventId, b: EventId) -> Result<Answer<bool>, AllocError>
+        ensures { IfOk result (IsBeforeAnswer self.now.types (delivered_by self.now.journal) a b) }
+    {
+        let Some(_first) = self.event(a) else {
+            return Ok(Answer::NotYet(a));
+        };
+        let Some(_second) = self.event(b) else {
+            return Ok(Answer::NotYet(b));
+        };
+        if a == b {
+            return Ok(Answer::Known(false));
+        }
+        let past = past_of(alloc, &self.journal, b)?;
+        Ok(Answer::Known(past.contains(&a)))
+    }
+}
+
+/// Why an event is refused where an event of its id was accepted.
+fn refusal_of_known(known: &Event, offered: &Event) -> Refusal
+    ensures { ((result ≡ Refusal.Repeat) × (known.now ≡ offered.now)) ⊎ ((result ≡ Refusal.Clash) × (known.now ≢ offered.now)) }
+{
+    if known == offered {
+        Refusal::Repeat
+    } else {
+        Refusal::Clash
+    }
+}
+
+/// Delivers what is enabled, one Next after another, until there is none.
+fn settle(types: &Types, journal: &mut IndexedJournal)
+    requires { IsOpenJournal types.now journal.old }
+    ensures settles { SettlesTo types.now journal.old journal.new }
+    ensures kept { IsOpenJournal types.now journal.new }
+{
+    while let Some(id) = next(types, journal) {
+        journal.push_gone(id);
+    }
+}

@@ -1,0 +1,4 @@
+pub mod Prefixes
+pub mod Earlier
+pub mod Clocks
+pub mod Blocks

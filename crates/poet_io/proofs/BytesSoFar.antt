@@ -1,0 +1,24 @@
+-- How what is left and what was taken go on over several calls.
+use Rattle.std.proofs.Common.{ℕ, ◌+◌, ◌-◌, List, ◌++◌, length, take, drop, Option, Some, None, sym, ap, ◌∙◌, append_assoc}
+use Rattle.std.proofs.Math.Seq.{take-add}
+use Rattle.std.proofs.lemmas.List.{take_rest}
+use Rattle.std.specs.Option.{option_map}
+use Rattle.poet_io.specs.Grows.{Grows}
+use Rattle.poet_io.specs.Takes.{TakesFront}
+
+-- a sink that took bytes and then more took both
+pub Grows-append : (a b c : Option (List ℕ)) (xs ys : List ℕ) → Grows a b xs → Grows b c ys → Grows a c (xs ++ ys)
+Grows-append None b c xs ys first second = second ∙ ap (option_map (λ taken. taken ++ ys)) first
+Grows-append (Some x) b c xs ys first second =
+    (second ∙ ap (option_map (λ taken. taken ++ ys)) first) ∙ ap Some (append_assoc x xs ys)
+
+-- a source that gave bytes and then more gave both
+pub TakesFront-append : (a b c : Option (List ℕ)) (xs ys : List ℕ) → TakesFront a b xs → TakesFront b c ys → TakesFront a c (xs ++ ys)
+TakesFront-append a b None xs ys first second = first ∙ ap (option_map (λ rest. xs ++ rest)) second
+TakesFront-append a b (Some z) xs ys first second =
+    (first ∙ ap (option_map (λ rest. xs ++ rest)) second) ∙ ap Some (sym (append_assoc xs ys z))
+
+-- a sink that took a front of some bytes and then a front of the rest took a longer front
+pub Grows_further : (a b c : Option (List ℕ)) (bytes : List ℕ) (n m : ℕ) → Grows a b (take n bytes) → Grows b c (take m (take (length bytes - n) (drop n bytes))) → Grows a c (take (n + m) bytes)
+Grows_further a b c bytes n m first second =
+    rw (take-add n m bytes) (Grows-append a b c (take n bytes) (take m (drop n bytes)) first (rw (take_rest bytes n) at second))

@@ -1,0 +1,2 @@
+pub mod BytesSoFar
+pub mod StoredFiles

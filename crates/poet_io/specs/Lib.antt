@@ -1,0 +1,11 @@
+pub mod Counter
+pub mod Faults
+pub mod Folder
+pub mod Grows
+pub mod MemFile
+pub mod MemFolder
+pub mod MemSink
+pub mod MemSource
+pub mod OpenError
+pub mod ReadAllError
+pub mod Takes

@@ -1,0 +1,50 @@
+-- What a folder in memory is.
+use Rattle.std.specs.Prelude.{◌≡◌, List, ℕ, [], ◌∷◌, Option, find}
+use Rattle.std.specs.Option.{option_map}
+use Rattle.std.specs.Str.{bytes_eq}
+use Rattle.poet_io.specs.declared.files.OpenError.{OpenError}
+use Rattle.poet_io.specs.declared.files.OpenError.TheVariants.{Absent, Failed, Oom}
+use Rattle.poet_io.specs.Counter.{counted}
+use Rattle.poet_io.specs.Folder.{Folder}
+use Rattle.poet_io.specs.MemFile.{FileState}
+use Rattle.poet_io.specs.MemSource.{unread}
+
+-- a file that stands in the folder: its name, its bytes, and the numbers of the reads that fail
+pub record StoredState : Type 0 where
+  pub name : List ℕ
+  pub bytes : List ℕ
+  pub fail_at : List ℕ
+
+-- the files, the newest first, the names that fail to open, and how often the folder failed
+pub record FolderState : Type 0 where
+  pub files : List StoredState
+  pub failing : List (List ℕ)
+  pub faults : ℕ
+
+-- a folder with no file
+abbrev pub empty_folder : FolderState
+empty_folder = record { files = []; failing = []; faults = 0 }
+
+-- the folder with one more file, which hides those of the same name
+abbrev pub with_file : FolderState → (name bytes fail_at : List ℕ) → FolderState
+with_file folder name bytes fail_at =
+    let file : StoredState = record { name = name; bytes = bytes; fail_at = fail_at } in
+    record folder { files = file ∷ folder.files }
+
+-- the file that a name stands for, which is the newest of that name
+abbrev pub file_at : List StoredState → List ℕ → Option StoredState
+file_at files name = find (λ file. bytes_eq file.name name) files
+
+-- the bytes that stand under each name
+abbrev pub bytes_at : List StoredState → Folder
+bytes_at files name = option_map (λ file. file.bytes) (file_at files name)
+
+-- the open file that a stored one gives
+abbrev pub opened : StoredState → FileState
+opened file = record { name = file.name; source = unread file.bytes file.fail_at }
+
+-- an opening that failed counts a fault, and each other refusal changes nothing
+abbrev pub LeavesFolder : OpenError → (old new : FolderState) → Type 0
+LeavesFolder Absent old new = new ≡ old
+LeavesFolder Failed old new = new ≡ record old { faults = counted old.faults }
+LeavesFolder Oom old new = new ≡ old

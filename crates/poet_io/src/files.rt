@@ -1,0 +1,58 @@
+ghost use Rattle.std.specs.Prelude.{◌≡◌, ◌<◌, ℕ, Option, None, IfOk, IfSome, IsSome, IsSomeAnd, IsErrOf, MatchResult};
+ghost use Rattle.poet_io.specs.OpenError.{CountsOpenError};
+ghost use Rattle.poet_io.specs.Faults.{IsRaised};
+ghost use Rattle.poet_io.specs.Folder.{Folder, IsOpenedAt};
+
+use crate::Source;
+use std::alloc::Global;
+use thiserror::Error;
+
+/// Why a file was not opened.
+#[derive(Clone, Copy, Debug, PartialEq, Eq, Error)]
+pub enum OpenError {
+    /// The folder tells what stands in it, and nothing stands under this name.
+    #[error("there is no such file")]
+    Absent,
+    /// The folder failed, and counted it.
+    #[error("the file could not be opened")]
+    Failed,
+    /// There was no memory for the file.
+    #[error("out of memory")]
+    Oom,
+}
+
+/// A folder of files, which are opened by their names.
+pub trait Files {
+    /// An open file.
+    type In: Source + Send;
+
+    /// How often it has failed, and the files that were given back have; the count never falls.
+    ghost faults: { Self → ℕ };
+
+    /// The bytes that stand under each name, or `None` where it doesn't tell.
+    ghost folder: { Self → Option Folder };
+
+    /// Opens a file, to be read from its start. `Absent` is told only by a folder that tells what
+    /// stands in it.
+    fn open(&mut self, alloc: Global, name: &str) -> Result<Self::In, OpenError>
+        ensures opened { IfOk result (λ source. IfSome (folder self.old) (λ files.
+            IsOpenedAt files name.now (Self.In.name source) (Self.In.left source))) }
+        ensures fresh { IfOk result (λ source. Self.In.faults source ≡ 0) }
+        ensures absent { IsErrOf result OpenError.Absent →
+            IsSomeAnd (folder self.old) (λ files. files name.now ≡ None) }
+        ensures same_files { folder self.new ≡ folder self.old }
+
+        ensures faults { MatchResult result
+            (λ _. faults self.new ≡ faults self.old)
+            (λ e. CountsOpenError e (faults self.old) (faults self.new)) };
+
+    /// Gives back a file that was opened here. What the file failed at counts for the folder from
+    /// then on.
+    fn close(&mut self, source: Self::In)
+        requires name_told { IsSome (folder self.old) → IsSome (Self.In.name source) }
+        requires left_told { IsSome (folder self.old) → IsSome (Self.In.left source) }
+
+        ensures no_fault { Self.In.faults source ≡ 0 → faults self.new ≡ faults self.old }
+        ensures fault { 0 < Self.In.faults source → IsRaised (faults self.old) (faults self.new) }
+        ensures same_files { folder self.new ≡ folder self.old };
+}

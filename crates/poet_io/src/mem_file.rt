@@ -1,0 +1,73 @@
+ghost use Rattle.std.specs.Prelude.{◌≡◌, ◌<◌, ◌↔◌, min, length, take, drop, Contains, IsErr, IfOk, OnErr};
+ghost use Rattle.poet_io.specs.Counter.{counted};
+ghost use Rattle.poet_io.specs.Faults.{IsRaised};
+
+use crate::{Bytes, Failed, MemSource, Source};
+use std::marker::Model;
+
+/// An open file of a [`MemFolder`](crate::MemFolder).
+#[derive(Debug, Drop)]
+pub struct MemFile {
+    name: Bytes,
+    source: MemSource,
+}
+
+impl Model for MemFile {
+    ghost use Rattle.poet_io.specs.MemFile.{FileState};
+
+    ghost Value = { FileState };
+
+    ghost view = { λ file. record { name = file.name; source = file.source } };
+}
+
+impl MemFile {
+    ghost use Rattle.poet_io.specs.MemFile.{FileState};
+
+    pub(crate) fn new(name: Bytes, source: MemSource) -> Self
+        ensures { result ≡ record { name = name; source = source } }
+    {
+        MemFile { name, source }
+    }
+
+    // How often a read of it has failed.
+    pub(crate) fn faults(&self) -> u64
+        ensures { result ≡ self.now.source.faults }
+    {
+        self.source.faults()
+    }
+}
+
+impl Source for MemFile {
+    ghost use Rattle.std.specs.Prelude.{Some};
+
+    ghost faults = { λ file. file.source.faults };
+
+    ghost left = { λ file. Some file.source.left };
+
+    ghost name = { λ file. Some file.name };
+
+    /// Gives as many bytes as fit, unless the call's number is among those that fail.
+    fn read(&mut self, buf: &mut [u8]) -> Result<usize, Failed>
+        requires { 0 < length buf.old }
+
+        ensures fails { IsErr result ↔
+            Contains self.old.source.fail_at (counted self.old.source.reads) }
+        ensures count { IfOk result (λ n. n ≡ min (length buf.old) (length self.old.source.left)) }
+        ensures front { IfOk result (λ n. take n buf.new ≡ take n self.old.source.left) }
+        ensures ok { IfOk result (λ n. self.new ≡ record self.old {
+          source = record self.old.source {
+            left = drop n self.old.source.left;
+            reads = counted self.old.source.reads;
+          };
+        }) }
+        ensures err { OnErr result (self.new ≡ record self.old {
+          source = record self.old.source {
+            reads = counted self.old.source.reads;
+            faults = counted self.old.source.faults;
+          };
+        }) }
+        ensures fault { OnErr result (IsRaised self.old.source.faults self.new.source.faults) }
+    {
+        self.source.read(buf)
+    }
+}

@@ -1,0 +1,40 @@
+ghost use Rattle.std.specs.Prelude.{◌++◌, codes, decimal, OnOk};
+ghost use Rattle.causal_base.specs.Spelling.{id_text};
+ghost use Rattle.poet_io.specs.Grows.{Grows};
+ghost use Rattle.poet_top.specs.Ask.{answer_text};
+
+use causal_base::{Answer, EventId};
+use itoa::Buffer;
+use poet_io::{Failed, Sink, put};
+
+/// Writes an answer, and ends the line.
+pub fn put_answer<K: Sink>(out: &mut K, answer: Answer<bool>) -> Result<(), Failed>
+    ensures { OnOk result (Grows (K.taken out.old) (K.taken out.new) (answer_text answer ++ codes "\n")) }
+{
+    match answer {
+        Answer::Known(true) => put(out, b"yes\n"),
+        Answer::Known(false) => put(out, b"no\n"),
+        Answer::NotYet(id) => {
+            put(out, b"notyet ")?;
+            put_id(out, id)?;
+            put(out, b"\n")
+        }
+    }
+}
+
+/// Writes an id.
+fn put_id<K: Sink>(out: &mut K, id: EventId) -> Result<(), Failed>
+    ensures { OnOk result (Grows (K.taken out.old) (K.taken out.new) (id_text id)) }
+{
+    put_number(out, id.trace)?;
+    put(out, b".")?;
+    put_number(out, id.number)
+}
+
+/// Writes a number in decimal.
+fn put_number<K: Sink>(out: &mut K, number: u32) -> Result<(), Failed>
+    ensures { OnOk result (Grows (K.taken out.old) (K.taken out.new) (decimal number)) }
+{
+    let mut buffer = Buffer::new();
+    put(out, buffer.format(number).as_bytes())
+}

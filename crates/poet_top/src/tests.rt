@@ -1,0 +1,401 @@
+//! Tests of what no clause says: that calls succeed where memory is left, the texts and statuses, and answers that
+//! were worked out by hand.
+
+ghost use Rattle.std.specs.Prelude.{◌≡◌, IfOk};
+ghost use Rattle.poet_top.specs.Watched.{watched_types};
+
+use crate::ask::offer_all;
+use crate::fault::Fault;
+use crate::poet_still;
+use causal_base::{Answer, EventId, Kind, Plain, Text, TypeRow, Types, id_of};
+use poet_io::{MemFolder, MemSink};
+use raw_reader::read_lines;
+use std::alloc::{AllocError, Global};
+use std::test::Fail;
+
+/// Two events before which the sink is full: no test writes so much.
+const ROOM: usize = 1000;
+
+fn words_from(alloc: Global, words: &[&str]) -> Result<Vec<String>, AllocError> {
+    let mut owned = Vec::new(alloc);
+    for word in words {
+        owned.push(String::from_str(alloc, word)?)?;
+    }
+    Ok(owned)
+}
+
+/// The status and the text for these words, over a folder with the file `e.txt`.
+fn run(
+    alloc: Global,
+    words: &[&str],
+    text: &[u8],
+    fail_reads: &[u64],
+    fail_writes: &[u64],
+) -> Result<(u8, MemSink), AllocError> {
+    let words = words_from(alloc, words)?;
+    let mut files = MemFolder::new(alloc);
+    files.add("e.txt", text, fail_reads)?;
+    files.fail_open("closed.txt")?;
+    let mut out = MemSink::new(alloc, Vec::from_slice(alloc, fail_writes)?, ROOM, ROOM)?;
+    let status = poet_still(alloc, &words, &mut files, &mut out);
+    Ok((status, out))
+}
+
+#[test]
+fn asks_over_a_file(rt: HostRuntime) -> Result<(), Fail> {
+    let message = b"0.1 s - 5\n1.1 r 0.1 6\n".as_slice();
+    let rows: [(&[&str], &[u8], u8, &[u8]); 16] = [
+        (&["ask", "e.txt", "0.1", "1.1"], message, 0, b"yes\n"),
+        (&["ask", "e.txt", "0.1", "2.1"], message, 0, b"notyet 2.1\n"),
+        (&["ask", "e.txt", "0.1", "0.1"], message, 0, b"no\n"),
+        (&["ask", "e.txt", "1.1", "0.1"], message, 0, b"no\n"),
+        (
+            &["ask", "e.txt", "255.1000000", "2.1"],
+            message,
+            0,
+            b"notyet 255.1000000\n",
+        ),
+        (&["ask", "e.txt", "0.1", "1.1"], b"", 0, b"notyet 0.1\n"),
+        (&["ask", "e.txt", "0.1", "x"], message, 1, b"poet: words\n"),
+        (
+            &["ask", "e.txt", "0.1", "256.1"],
+            message,
+            1,
+            b"poet: words\n",
+        ),
+        (
+            &["ask", "e.txt", "0.0", "1.1"],
+            message,
+            1,
+            b"poet: words\n",
+        ),
+        (&["ask", "e.txt", "0.1"], message, 1, b"poet: words\n"),
+        (
+            &["ask", "e.txt", "0.1", "1.1", "1.1"],
+            message,
+            1,
+            b"poet: words\n",
+        ),
+        (
+            &["tell", "e.txt", "0.1", "1.1"],
+            message,
+            1,
+            b"poet: words\n",
+        ),
+        (&[], message, 1, b"poet: words\n"),
+        (
+            &["ask", "absent.txt", "0.1", "1.1"],
+            message,
+            2,
+            b"poet: open absent.txt\n",
+        ),
+        (
+            &["ask", "closed.txt", "0.1", "1.1"],
+            message,
+            2,
+            b"poet: open closed.txt\n",
+        ),
+        (
+            &["ask", "e.txt", "0.1", "1.1"],
+            b"0.1 s - 5\n1.1 r 0.1 6",
+            6,
+            b"poet: line\n",
+        ),
+    ];
+    for (words, text, status, written) in rows {
+        let (answered, out) = run(rt.alloc(), words, text, &[], &[])?;
+        assert_eq!(rt; answered, status, "{words:?}");
+        assert_eq!(rt; out.bytes(), written, "{words:?}");
+    }
+    Ok(())
+}
+
+#[test]
+fn devices_fail(rt: HostRuntime) -> Result<(), Fail> {
+    let alloc = rt.alloc();
+    let words = ["ask", "e.txt", "0.1", "1.1"];
+    for read in [1, 2] {
+        let (status, out) = run(alloc, &words, b"0.1 u - 0\n", &[read], &[])?;
+        assert_eq!(rt; status, 2);
+        assert_eq!(rt; out.bytes(), b"poet: read e.txt\n".as_slice());
+    }
+    let (status, out) = run(alloc, &words, b"", &[], &[1])?;
+    assert_eq!(rt; status, 3);
+    assert_eq!(rt; out.bytes(), b"".as_slice());
+    let (status, out) = run(alloc, &words, b"", &[], &[3])?;
+    assert_eq!(rt; status, 3);
+    assert_eq!(rt; out.bytes(), b"notyet 0".as_slice());
+    Ok(())
+}
+
+/// Lines of unary events of one trace, each of ten bytes, with these many of them.
+fn text_of_repeats(alloc: Global, lines: usize) -> Result<Vec<u8>, AllocError> {
+    let mut text = Vec::new(alloc);
+    for _ in 0..lines {
+        text.extend_from_slice(b"0.1 u - 0\n")?;
+    }
+    Ok(text)
+}
+
+#[test]
+fn limits_hold(rt: HostRuntime) -> Result<(), Fail> {
+    let alloc = rt.alloc();
+    let words = ["ask", "e.txt", "0.1", "0.1"];
+    let mut text = text_of_repeats(alloc, 6552)?;
+    text.extend_from_slice(b"0.1 u - 0 text\n")?;
+    text.push(b'0')?;
+    assert_eq!(rt; text.len(), 65_536);
+    let (status, _) = run(alloc, &words, &text, &[], &[])?;
+    assert_eq!(rt; status, 6, "an unended line at the limit");
+    let ended = text_of_repeats(alloc, 6553)?;
+    let (status, out) = run(alloc, &words, &ended, &[], &[])?;
+    assert_eq!(rt; status, 0);
+    assert_eq!(rt; out.bytes(), b"no\n".as_slice());
+    let longer = text_of_repeats(alloc, 6554)?;
+    let (status, out) = run(alloc, &words, &longer, &[], &[])?;
+    assert_eq!(rt; status, 6);
+    assert_eq!(rt; out.bytes(), b"poet: line\n".as_slice());
+    Ok(())
+}
+
+/// The types `u`, `s` and `r`, and `w`, whose events watch, over three traces.
+fn types_watched(alloc: Global) -> Result<Types, AllocError>
+    ensures { IfOk result (λ types. types ≡ watched_types) }
+{
+    let rows = vec![in alloc;
+        TypeRow {
+            name: Text::new(alloc, b"u")?,
+            kind: Kind::Unary,
+            mate: None
+        },
+        TypeRow {
+            name: Text::new(alloc, b"s")?,
+            kind: Kind::Send,
+            mate: Some(2)
+        },
+        TypeRow {
+            name: Text::new(alloc, b"r")?,
+            kind: Kind::Receive,
+            mate: Some(1)
+        },
+        TypeRow {
+            name: Text::new(alloc, b"w")?,
+            kind: Kind::Watch,
+            mate: None
+        },
+    ]?;
+    Ok(Types::new(3, rows))
+}
+
+/// A plain list to which the events of these lines were offered.
+fn plain_of(alloc: Global, text: &[u8]) -> Result<Option<Plain>, AllocError> {
+    let types = types_watched(alloc)?;
+    let Some(events) = read_lines(alloc, text, &types)? else {
+        return Ok(None);
+    };
+    let mut plain = Plain::new(alloc, types);
+    match offer_all(&mut plain, events) {
+        Ok(()) => Ok(Some(plain)),
+        Err(_) => Ok(None),
+    }
+}
+
+/// Whether the delivered events of traces 0 to 2 with numbers 1 to 4 are just these.
+fn delivers_just(plain: &Plain, ids: &str) -> bool {
+    let mut told = 0u32;
+    for id in ids.split_whitespace() {
+        match id_of(id.as_bytes(), 3) {
+            Ok(id) => {
+                if plain.event(id).is_none() {
+                    return false;
+                }
+            }
+            Err(_) => return false,
+        }
+        told = told.saturating_add(1);
+    }
+    let mut found = 0u32;
+    for trace in 0..3 {
+        for number in 1..5 {
+            if plain.event(EventId { trace, number }).is_some() {
+                found = found.saturating_add(1);
+            }
+        }
+    }
+    found == told
+}
+
+/// Whether the plain list answers as the line `A B ANSWER` says.
+fn answers_so(alloc: Global, plain: &Plain, line: &str) -> Result<bool, AllocError> {
+    let Some((a, rest)) = line.split_once(' ') else {
+        return Ok(false);
+    };
+    let Some((b, told)) = rest.split_once(' ') else {
+        return Ok(false);
+    };
+    match (id_of(a.as_bytes(), 3), id_of(b.as_bytes(), 3)) {
+        (Ok(a), Ok(b)) => Ok(is_told(plain.before(alloc, a, b)?, told)),
+        _ => Ok(false),
+    }
+}
+
+/// Whether the words are those of the answer.
+fn is_told(answer: Answer<bool>, told: &str) -> bool {
+    match answer {
+        Answer::Known(true) => told == "yes",
+        Answer::Known(false) => told == "no",
+        Answer::NotYet(id) => match told.strip_prefix("notyet ") {
+            Some(text) => id_of(text.as_bytes(), 3) == Ok(id),
+            None => false,
+        },
+    }
+}
+
+/// Lines of events, the ids that are delivered, and lines of questions with their answers.
+const CASES: [(&str, &str, &str); 25] = [
+    // No event at all, one event, and two that know nothing of each other.
+    ("", "", "0.1 1.1 notyet 0.1"),
+    (
+        "0.1 u - 0\n",
+        "0.1",
+        "0.1 0.1 no\n0.1 1.1 notyet 1.1\n1.1 0.1 notyet 1.1",
+    ),
+    (
+        "0.1 u - 0\n1.1 u - 0\n",
+        "0.1 1.1",
+        "0.1 1.1 no\n1.1 0.1 no",
+    ),
+    // Events before their causes.
+    (
+        "1.1 r 0.1 0\n0.1 s - 0\n",
+        "0.1 1.1",
+        "0.1 1.1 yes\n1.1 0.1 no",
+    ),
+    (
+        "2.1 r 1.2 0\n1.2 s - 0\n1.1 r 0.1 0\n0.1 s - 0\n",
+        "0.1 1.1 1.2 2.1",
+        "0.1 2.1 yes\n1.1 2.1 yes\n2.1 0.1 no",
+    ),
+    (
+        "0.3 u - 0\n0.1 u - 0\n0.2 u - 0\n",
+        "0.1 0.2 0.3",
+        "0.1 0.3 yes\n0.3 0.1 no",
+    ),
+    // A send that never comes, and names of what can't be received.
+    (
+        "1.1 r 0.1 0\n0.2 u - 0\n",
+        "",
+        "1.1 0.2 notyet 1.1\n0.2 1.1 notyet 0.2",
+    ),
+    (
+        "0.1 s - 0\n1.1 r 0.1 0\n2.1 r 1.1 0\n",
+        "0.1 1.1",
+        "0.1 2.1 notyet 2.1",
+    ),
+    (
+        "0.1 u - 0\n1.1 r 0.1 0\n1.2 u - 0\n",
+        "0.1",
+        "0.1 1.1 notyet 1.1",
+    ),
+    // A trace with a gap.
+    ("0.1 u - 0\n0.3 u - 0\n", "0.1", "0.1 0.3 notyet 0.3"),
+    // Repeats, and of two events with one id the first counts.
+    (
+        "0.1 u - 1\n0.1 u - 1\n0.2 u - 2\n",
+        "0.1 0.2",
+        "0.1 0.2 yes",
+    ),
+    (
+        "0.1 s - 1\n0.1 u - 1\n1.1 r 0.1 2\n",
+        "0.1 1.1",
+        "0.1 1.1 yes",
+    ),
+    (
+        "0.1 u - 1\n0.1 s - 1\n1.1 r 0.1 2\n",
+        "0.1",
+        "0.1 1.1 notyet 1.1",
+    ),
+    (
+        "1.1 r 0.1 2\n1.1 r 0.1 3\n0.1 s - 1\n",
+        "0.1 1.1",
+        "0.1 1.1 yes",
+    ),
+    // Watches of the own trace and of others.
+    (
+        "0.2 w 0.1 0\n0.1 u - 0\n",
+        "0.1 0.2",
+        "0.1 0.2 yes\n0.2 0.1 no",
+    ),
+    (
+        "1.1 w 0.1 0\n0.1 u - 0\n1.2 u - 0\n",
+        "0.1 1.1 1.2",
+        "0.1 1.2 yes\n1.1 0.1 no\n1.1 1.2 yes",
+    ),
+    (
+        "0.1 s - 0\n1.1 r 0.1 0\n2.1 w 1.1 0\n",
+        "0.1 1.1 2.1",
+        "0.1 2.1 yes\n2.1 1.1 no",
+    ),
+    ("0.1 w 0.1 0\n", "", "0.1 0.1 notyet 0.1"),
+    ("0.1 w 0.2 0\n0.2 u - 0\n", "", "0.1 0.2 notyet 0.1"),
+    ("0.1 w 1.1 0\n1.1 w 0.1 0\n", "", "0.1 1.1 notyet 0.1"),
+    // Several receives of one send, and a message of a trace to itself.
+    (
+        "0.1 s - 0\n1.1 r 0.1 0\n2.1 r 0.1 0\n",
+        "0.1 1.1 2.1",
+        "0.1 2.1 yes\n1.1 2.1 no\n2.1 1.1 no",
+    ),
+    ("0.2 r 0.1 0\n0.1 s - 0\n", "0.1 0.2", "0.1 0.2 yes"),
+    // Messages that cross, and traces that wait for each other for good.
+    (
+        "0.1 s - 0\n0.2 r 1.1 0\n1.1 s - 0\n1.2 r 0.1 0\n",
+        "0.1 0.2 1.1 1.2",
+        "0.1 1.2 yes\n1.1 0.2 yes\n0.1 1.1 no\n0.2 1.2 no",
+    ),
+    (
+        "0.1 r 1.2 0\n0.2 s - 0\n1.1 r 0.2 0\n1.2 s - 0\n",
+        "",
+        "0.1 1.1 notyet 0.1",
+    ),
+    // Along a trace, over a message and along the other trace.
+    (
+        "0.1 u - 0\n0.2 s - 0\n1.1 u - 0\n1.2 r 0.2 0\n1.3 u - 0\n",
+        "0.1 0.2 1.1 1.2 1.3",
+        "0.1 1.3 yes\n1.1 0.2 no\n0.2 1.1 no\n1.1 1.3 yes",
+    ),
+];
+
+#[test]
+fn delivers_by_cause(rt: HostRuntime) -> Result<(), Fail> {
+    let alloc = rt.alloc();
+    for (text, delivered, questions) in CASES {
+        let plain = plain_of(alloc, text.as_bytes())?.ok_or("the lines are refused")?;
+        assert!(rt; delivers_just(&plain, delivered), "{text}");
+        for line in questions.lines() {
+            assert!(rt; answers_so(alloc, &plain, line)?, "{line} over {text}");
+        }
+    }
+    Ok(())
+}
+
+#[test]
+fn takes_no_more_than_its_limit(rt: HostRuntime) -> Result<(), Fail> {
+    let alloc = rt.alloc();
+    let mut text = Vec::new(alloc);
+    for number in 1..10_001u32 {
+        text.extend_from_slice(format!(in alloc; "0.{number} u - 0\n")?.as_bytes())?;
+    }
+    let full = plain_of(alloc, &text)?.ok_or("10,000 events are refused")?;
+    let last = EventId {
+        trace: 0,
+        number: 10_000,
+    };
+    assert!(rt; full.event(last).is_some());
+
+    text.extend_from_slice(b"0.1 u - 0\n1.1 u - 0\n")?;
+    let types = types_watched(alloc)?;
+    let events = read_lines(alloc, &text, &types)?.ok_or("the lines are refused")?;
+    let mut plain = Plain::new(alloc, types);
+    assert_eq!(rt; offer_all(&mut plain, events), Err(Fault::Full));
+    Ok(())
+}

@@ -1,0 +1,5 @@
+pub mod Visible
+pub mod Splitting
+pub mod Spelled
+pub mod Exits
+pub mod Reading

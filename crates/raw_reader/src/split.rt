@@ -1,0 +1,51 @@
+ghost use Rattle.std.specs.Prelude.{ℕ, List, IfSome, IfNone};
+ghost use Rattle.raw_reader.specs.Splits.{IsSplit, IsTimeAndText};
+
+use causal_base::cut;
+
+/// The five fields of a line as they are written. The text is empty where the line has none.
+#[derive(Drop)]
+pub struct Split<'a> {
+    pub id: &'a [u8],
+    pub name: &'a [u8],
+    pub mate: &'a [u8],
+    pub time: &'a [u8],
+    pub text: &'a [u8],
+}
+
+/// The fields of a line, or none where it isn't four fields with one space between them, and perhaps one more
+/// space with a text behind it.
+pub fn split_line(line: &[u8]) -> Option<Split<'_>>
+    ensures found { IfSome result (λ split.
+        IsSplit line.now split.id.now split.name.now split.mate.now split.time.now split.text.now) }
+    ensures none { IfNone result ((id name mate time text : List ℕ) →
+        IsSplit line.now id name mate time text → ⊥) }
+{
+    let (id, rest) = cut(line, b' ')?;
+    let (name, rest) = cut(rest, b' ')?;
+    let (mate, rest) = cut(rest, b' ')?;
+    let (time, text) = time_and_text(rest)?;
+    Some(Split {
+        id,
+        name,
+        mate,
+        time,
+        text,
+    })
+}
+
+/// A time, and the text behind the space after it, which is empty where there is no space. None where a space
+/// has nothing behind it.
+fn time_and_text(bytes: &[u8]) -> Option<(&[u8], &[u8])>
+    ensures found { IfSome result (λ parts. IsTimeAndText bytes.now parts.0.now parts.1.now) }
+    ensures none { IfNone result ((time text : List ℕ) → IsTimeAndText bytes.now time text → ⊥) }
+{
+    let Some((time, text)) = cut(bytes, b' ') else {
+        return Some((bytes, &[]));
+    };
+    if text.is_empty() {
+        None
+    } else {
+        Some((time, text))
+    }
+}

@@ -31,7 +31,7 @@ last_step types events (w ∷ ws) x y walk = elim (last_step types events ws w y
 ]
 
 -- one more step is a longer walk
-reaches_step : (types : TypeTable) (events : List Event) (x y end : Event) → Step types events x y → Reaches types events y end → Reaches types events x end
+pub reaches_step : (types : TypeTable) (events : List Event) (x y end : Event) → Step types events x y → Reaches types events y end → Reaches types events x end
 reaches_step types events x y end step reaches = record { among = step.from; through = y ∷ reaches.through; walk = (step, reaches.walk) }
 
 -- a step into the newest event that was delivered alone begins at an older event

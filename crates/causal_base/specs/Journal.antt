@@ -2,7 +2,8 @@ use Rattle.std.specs.Prelude.{List, reverse}
 use Rattle.causal_base.specs.declared.entry.Entry.{Entry}
 use Rattle.causal_base.specs.declared.event.Event.{Event}
 use Rattle.causal_base.specs.Types.{TypeTable}
-use Rattle.causal_base.specs.Past.{came, delivered, HasNoNext, IsLegalPast}
+use Rattle.causal_base.specs.History.{Delivery}
+use Rattle.causal_base.specs.Past.{came, deliveries, delivered, HasNoNext, IsLegalPast}
 
 -- A journal is a list of entries, the oldest first.
 
@@ -21,3 +22,7 @@ came_by journal = came (reverse journal)
 -- the events that were delivered, newest first
 abbrev pub delivered_by : List Entry → List Event
 delivered_by journal = delivered (reverse journal)
+
+-- the deliveries, newest first
+abbrev pub deliveries_by : List Entry → List Delivery
+deliveries_by journal = deliveries (reverse journal)

@@ -4,6 +4,8 @@ pub mod Walks
 pub mod Clocks
 pub mod History
 pub mod Past
+pub mod Clusters
+pub mod Stamps
 pub mod Journal
 pub mod Index
 pub mod PlainList

@@ -16,7 +16,7 @@ use Rattle.causal_base.proofs.Pasts.{same_came, delivery_of-two}
 use Rattle.causal_base.proofs.Ready.{ready_from_enabled}
 
 -- an event that waits for no other trace is no half of a pair
-ready_no_sync : (types : TypeTable) (events : List Event) (e : Event) → IsReady types events e → IsOfKind types e Sync → ⊥
+pub ready_no_sync : (types : TypeTable) (events : List Event) (e : Event) → IsReady types events e → IsOfKind types e Sync → ⊥
 ready_no_sync types events e ready sync = elim ready [
   | inl unary ↦ let same = same_kind types e Unary Sync unary sync in cc
   | inr rest ↦ elim rest [

@@ -22,11 +22,11 @@ same_answer P false true b_is d_is = b_is.1 (d_is.0 refl)
 same_answer P false false b_is d_is = refl
 
 -- how many pass is counted from the first element on
-count_by-cons : {A : Type 0} (test : A → Bool) (x : A) (xs : List A) → count_by test (x ∷ xs) ≡ cond (test x) 1 0 + count_by test xs
+pub count_by-cons : {A : Type 0} (test : A → Bool) (x : A) (xs : List A) → count_by test (x ∷ xs) ≡ cond (test x) 1 0 + count_by test xs
 count_by-cons test x xs = sum_by-cons (λ y. cond (test y) 1 0) x xs
 
 -- tests that agree on each member count the same
-count_by_agree : {A : Type 0} (test other : A → Bool) (xs : List A) → ((x : A) → Contains xs x → test x ≡ other x) → count_by test xs ≡ count_by other xs
+pub count_by_agree : {A : Type 0} (test other : A → Bool) (xs : List A) → ((x : A) → Contains xs x → test x ≡ other x) → count_by test xs ≡ count_by other xs
 count_by_agree test other [] agree = refl
 count_by_agree {A} test other (x ∷ xs) agree =
     let here : test x ≡ other x = agree x (Contains-here x xs) in
@@ -34,12 +34,12 @@ count_by_agree {A} test other (x ∷ xs) agree =
     count_by-cons test x xs ∙ (ap (λ (b : Bool). cond b 1 0 + count_by test xs) here ∙ ap (λ (n : ℕ). cond (other x) 1 0 + n) rest) ∙ sym (count_by-cons other x xs)
 
 -- true on the right changes no test
-and_true : (b : Bool) → (b && true) ≡ b
+pub and_true : (b : Bool) → (b && true) ≡ b
 and_true true = refl
 and_true false = refl
 
 -- what holds of each member holds at each index
-All-from_members : {A : Type 0} (P : A → Type 0) (xs : List A) → ((x : A) → Contains xs x → P x) → All P xs
+pub All-from_members : {A : Type 0} (P : A → Type 0) (xs : List A) → ((x : A) → Contains xs x → P x) → All P xs
 All-from_members P xs each k d inside = each (slice_index_or xs k d) (Contains-get_or xs k d inside)
 
 -- elements with a property are so many in one way only
@@ -52,11 +52,11 @@ counts_is_one {A} Property xs m n one other =
     ∙ other.number_is
 
 -- an element that fails isn't counted
-count_by_skip : {A : Type 0} (test : A → Bool) (x : A) (xs : List A) → test x ≡ false → count_by test (x ∷ xs) ≡ count_by test xs
+pub count_by_skip : {A : Type 0} (test : A → Bool) (x : A) (xs : List A) → test x ≡ false → count_by test (x ∷ xs) ≡ count_by test xs
 count_by_skip test x xs fails = rw (count_by-cons test x xs, fails) (omega arith)
 
 -- added deliveries take nothing from a count
-count_on-added : (trace : ℕ) (added ds : List Delivery) → count_on trace (all_events ds) ≤ count_on trace (all_events (added ++ ds))
+pub count_on-added : (trace : ℕ) (added ds : List Delivery) → count_on trace (all_events ds) ≤ count_on trace (all_events (added ++ ds))
 count_on-added trace [] ds = omega arith
 count_on-added trace (alone e ∷ added) ds =
     let rest = count_on-added trace added ds in

@@ -2,3 +2,11 @@ pub mod Prefixes
 pub mod Earlier
 pub mod Clocks
 pub mod Blocks
+pub mod Partitions
+pub mod OwnHistories
+pub mod Levels
+pub mod Limits
+pub mod Entries
+pub mod Enabled
+pub mod WorkedStamps
+pub mod WorkedClocks

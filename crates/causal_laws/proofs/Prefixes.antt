@@ -6,10 +6,10 @@ use Rattle.causal_base.specs.declared.entry.Entry.{Entry}
 use Rattle.causal_base.specs.declared.entry.Entry.TheVariants.{Came, Gone, Pair, Ended}
 use Rattle.causal_base.specs.declared.event.Event.{Event}
 use Rattle.causal_base.specs.Types.{TypeTable}
-use Rattle.causal_base.specs.History.{Delivery, alone, together, events_of, all_events, IsCausal}
+use Rattle.causal_base.specs.History.{Delivery, all_events, IsCausal}
 use Rattle.causal_base.specs.Past.{came, delivery_of, deliveries, IsLegalPast}
 use Rattle.causal_base.specs.Journal.{IsLegal, delivered_by}
-use Rattle.causal_base.proofs.Members.{Contains-there}
+use Rattle.causal_base.proofs.Histories.{Contains-there_events}
 use Rattle.causal_base.proofs.Pasts.{causal}
 
 -- what stands before newer entries of a legal past is a legal past
@@ -31,23 +31,18 @@ deliveries-append (Pair a b ∷ newer) past =
     (first ++ rest.0, ap (λ ds. first ++ ds) rest.1 ∙ sym (append_assoc first rest.0 (deliveries past)))
 deliveries-append (Ended collector ∷ newer) past = deliveries-append newer past
 
--- a member of the older events is a member after one delivery more
-Contains-before_events : (d : Delivery) (es : List Event) (x : Event) → Contains es x → Contains (events_of d ++ es) x
-Contains-before_events (alone e) es x h = Contains-there e es x h
-Contains-before_events (together a b) es x h = Contains-there b (a ∷ es) x (Contains-there a es x h)
-
 -- a member of the older events is a member after more deliveries
 pub Contains-grows : (added ds : List Delivery) (x : Event) → Contains (all_events ds) x → Contains (all_events (added ++ ds)) x
 Contains-grows [] ds x h = h
-Contains-grows (d ∷ added) ds x h = Contains-before_events d (all_events (added ++ ds)) x (Contains-grows added ds x h)
+Contains-grows (d ∷ added) ds x h = Contains-there_events d (all_events (added ++ ds)) x (Contains-grows added ds x h)
 
 module _ (types : TypeTable) (journal more : List Entry) (legal : IsLegal types (journal ++ more)) where
   -- the longer journal, newest entry first
-  newest_first : reverse (journal ++ more) ≡ reverse more ++ reverse journal
+  pub newest_first : reverse (journal ++ more) ≡ reverse more ++ reverse journal
   newest_first = reverse-append journal more
 
   -- the same with the entries of the beginning behind
-  legal_behind : IsLegalPast types (reverse more ++ reverse journal)
+  pub legal_behind : IsLegalPast types (reverse more ++ reverse journal)
   legal_behind = subst (IsLegalPast types) newest_first legal
 
   -- the beginning of a legal journal is legal

@@ -1,12 +1,18 @@
 //! What the definitions of [`causal_base`] imply. Each function here is empty: its contract is a law.
 #![tactic(auto)]
 
-pub use clock::{clock_is_one, clock_stays};
+pub use clock::{clock_exists, clock_is_one, clock_stays, clock_tells_reach, partners_share_clock};
+pub use cluster::{cluster_stays, clusters_grow, clusters_nest, clusters_part_traces, top_has_all};
+pub use entry::{clock_is_greatest_of_entries, walk_enters_above};
 pub use next::next_is_one;
 pub use past::{past_stays, walk_stays_in_past};
 pub use prefix::{delivered_stays, legal_prefix};
+pub use settled::{enabled_stays, same_delivered};
 
 mod clock;
+mod cluster;
+mod entry;
 mod next;
 mod past;
 mod prefix;
+mod settled;

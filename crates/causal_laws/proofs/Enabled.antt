@@ -1,0 +1,177 @@
+use Rattle.std.proofs.Common.{◌≡◌, ◌≤◌, ◌⊎◌, inl, inr, List, [], ◌∷◌, ◌++◌, sym, ◌∙◌, ap, subst, arith, Some}
+use Rattle.std.specs.Prelude.{Contains, option_and_then}
+use Rattle.std.specs.List.{AllByRecursion}
+use Rattle.std.specs.Option.{option_map}
+use Rattle.std.proofs.lemmas.Bool.{cases_lt}
+use Rattle.causal_base.specs.declared.block.Block.{Block}
+use Rattle.causal_base.specs.declared.block.Block.TheVariants.{One, Two}
+use Rattle.causal_base.specs.declared.entry.Entry.{Entry}
+use Rattle.causal_base.specs.declared.entry.Entry.TheVariants.{Came, Gone, Pair, Ended}
+use Rattle.causal_base.specs.declared.event.Event.{Event}
+use Rattle.causal_base.specs.declared.event_id.EventId.{EventId}
+use Rattle.causal_base.specs.Types.{TypeTable}
+use Rattle.causal_base.specs.Event.{Pairs}
+use Rattle.causal_base.specs.History.{Delivery, alone, together, events_of, all_events, count_on, IsNextOfTrace, IsReady, MayFollow, IsCausal}
+use Rattle.causal_base.specs.Past.{came, event_of, delivery_of, deliveries, delivered, IsEnabled, HasNoNext, IsLegalPast}
+use Rattle.causal_base.proofs.Ids.{event_of-member}
+use Rattle.causal_base.proofs.Members.{Contains-cons, Contains-here, Contains-there, Contains-nil}
+use Rattle.causal_base.proofs.Numbered.{IsNumbered, event_at}
+use Rattle.causal_base.proofs.Histories.{numbered, Contains-there_events}
+use Rattle.causal_base.proofs.Pasts.{same_came, event_of-came, delivery_of-one, delivery_of-two, delivery_inside, causal, delivered_came}
+use Rattle.causal_base.proofs.Ready.{delivered_numbered, delivered_from_number, number_from_delivered}
+use Rattle.causal_laws.proofs.OwnHistories.{Contains-newest, Contains-split}
+use Rattle.causal_laws.proofs.Limits.{pairs_swapped, partner_is_new}
+
+-- the partner of a delivered event is delivered
+partner_delivered : (types : TypeTable) (ds : List Delivery) → IsCausal types ds → (x y : Event) → Contains (all_events ds) y → Pairs types x y → (v : Event) × Contains (all_events ds) v × (v.id ≡ x.id)
+partner_delivered types [] h x y inside pairs = absurd (Contains-nil y inside)
+partner_delivered types (d ∷ ds) h x y inside pairs = elim (Contains-split d ds y inside) [
+  | inl newest ↦ let v = partner_is_new types ds d h x y newest pairs in (v.0, Contains-newest d ds v.0 v.1, v.2)
+  | inr older ↦ let v = partner_delivered types ds h.1 x y older pairs in (v.0, Contains-there_events d (all_events ds) v.0 v.1, v.2)
+]
+
+-- what waits for no other trace still waits for none when there are more events
+ready_grows : (types : TypeTable) (few more : List Event) (e : Event) → ((x : Event) → Contains few x → Contains more x) → IsReady types few e → IsReady types more e
+ready_grows types few more e grows ready = elim ready [
+  | inl unary ↦ inl unary
+  | inr rest ↦ elim rest [ inl send ↦ inr (inl send) | inr cause ↦ inr (inr (cause.0, grows cause.0 cause.1, cause.2)) ]
+]
+
+-- two events that came are found by their ids
+pair_came : (types : TypeTable) (past : List Entry) → IsLegalPast types past → (a b : Event) → Contains (came past) a → Contains (came past) b → delivery_of (came past) (Two a.id b.id) ≡ Some (together a b)
+pair_came types past legal a b a_came b_came =
+    ap (λ o. option_and_then (λ x. option_map (together x) (event_of (came past) b.id)) o) (event_of-came types past legal a a_came)
+    ∙ ap (λ o. option_map (together a) o) (event_of-came types past legal b b_came)
+
+-- none of the events is delivered yet
+abbrev AreWaiting : List Entry → List Event → Type 0
+AreWaiting past events = AllByRecursion (λ e. Contains (delivered past) e → ⊥) events
+
+abbrev AreDelivered : List Entry → List Event → Type 0
+AreDelivered past events = (e : Event) → Contains events e → Contains (delivered past) e
+
+module _ (types : TypeTable) (past : List Entry) (legal : IsLegalPast types past) where
+  -- the next event of a trace after some of the deliveries is delivered, or is the next after them all
+  delivered_or_next : (few : List Event) → IsNumbered few → AreDelivered past few → (e : Event) → Contains (came past) e → IsNextOfTrace few e → Contains (delivered past) e ⊎ IsNextOfTrace (delivered past) e
+  delivered_or_next few few_numbered grows e there next = elim (cases_lt (count_on e.id.trace (delivered past)) e.id.number) [
+    | inr most ↦ inl (delivered_from_number types past legal e there most)
+    | inl above ↦ elim (cases_lt 0 (count_on e.id.trace few)) [
+      | inr none ↦ inr (omega (arith, above, next, none))
+      | inl some ↦
+          let last = event_at few few_numbered e.id.trace (count_on e.id.trace few) some (omega arith) in
+          let within = number_from_delivered types past legal last.0 (grows last.0 last.1) in
+          let within_too : last.0.id.number ≤ count_on e.id.trace (delivered past) = subst (λ t. last.0.id.number ≤ count_on t (delivered past)) last.2 within in
+          inr (omega (arith, above, next, within_too, last.3))
+    ]
+  ]
+
+  not_delivered : (e : Event) → IsNextOfTrace (delivered past) e → Contains (delivered past) e → ⊥
+  not_delivered e next gone = let most = number_from_delivered types past legal e gone in omega (arith, most, next)
+
+  -- where an event is delivered, so is its partner
+  partner_too : (x y : Event) → Contains (came past) x → Contains (delivered past) y → Pairs types x y → Contains (delivered past) x
+  partner_too x y there gone pairs =
+      let v = partner_delivered types (deliveries past) (causal types past legal) x y gone pairs in
+      subst (Contains (delivered past)) (same_came types past legal v.0 x (delivered_came types past legal v.0 v.1) there v.2) v.1
+
+  -- what may follow some of the deliveries is delivered, or may follow them all
+  delivered_or_follows : (few : List Delivery) → IsNumbered (all_events few) → AreDelivered past (all_events few) → (d : Delivery) → ((e : Event) → Contains (events_of d) e → Contains (came past) e) → MayFollow types few d → AreDelivered past (events_of d) ⊎ (AreWaiting past (events_of d) × MayFollow types (deliveries past) d)
+  delivered_or_follows few few_numbered grows (alone e) there follows = elim (delivered_or_next (all_events few) few_numbered grows e (there e (Contains-here e [])) follows.0) [
+    | inl gone ↦ inl (λ x inside. elim (Contains-cons e [] x inside) [ inl is ↦ subst (Contains (delivered past)) is gone | inr none ↦ absurd (Contains-nil x none) ])
+    | inr next ↦ inr ((not_delivered e next, tt), (next, ready_grows types (all_events few) (delivered past) e grows follows.1))
+  ]
+  delivered_or_follows few few_numbered grows (together a b) there follows =
+      elim (delivered_or_next (all_events few) few_numbered grows a a_came follows.0) [
+        | inl gone ↦ inl (both_gone gone (partner_too b a b_came gone (pairs_swapped types a b follows.2)))
+        | inr next_a ↦ elim (delivered_or_next (all_events few) few_numbered grows b b_came follows.1) [
+          | inl gone ↦ inl (both_gone (partner_too a b a_came gone follows.2) gone)
+          | inr next_b ↦ inr ((not_delivered b next_b, (not_delivered a next_a, tt)), (next_a, next_b, follows.2, follows.3))
+        ]
+      ]
+    where
+      a_came : Contains (came past) a
+      a_came = there a (Contains-there b (a ∷ []) a (Contains-here a []))
+
+      b_came : Contains (came past) b
+      b_came = there b (Contains-here b (a ∷ []))
+
+      both_gone : Contains (delivered past) a → Contains (delivered past) b → (x : Event) → Contains (b ∷ a ∷ []) x → Contains (delivered past) x
+      both_gone gone_a gone_b x inside = elim (Contains-cons b (a ∷ []) x inside) [
+        | inl is ↦ subst (Contains (delivered past)) is gone_b
+        | inr rest ↦ elim (Contains-cons a [] x rest)
+            [ inl is ↦ subst (Contains (delivered past)) is gone_a | inr none ↦ absurd (Contains-nil x none) ]
+      ]
+
+  -- a settled journal delivered what may follow some of its deliveries
+  settled_delivered : HasNoNext types past → (few : List Delivery) → IsNumbered (all_events few) → AreDelivered past (all_events few) → (d : Delivery) → ((e : Event) → Contains (events_of d) e → Contains (came past) e) → MayFollow types few d → AreDelivered past (events_of d)
+  settled_delivered settled few few_numbered grows (alone e) there follows = elim (delivered_or_follows few few_numbered grows (alone e) there follows) [
+    | inl gone ↦ gone
+    | inr still ↦ absurd (settled (One e.id) (record {
+      delivery = alone e;
+      came_in = ap (λ o. option_map alone o) (event_of-came types past legal e (there e (Contains-here e [])));
+      waiting = still.0;
+      may_follow = still.1;
+    }))
+  ]
+  settled_delivered settled few few_numbered grows (together a b) there follows = elim (delivered_or_follows few few_numbered grows (together a b) there follows) [
+    | inl gone ↦ gone
+    | inr still ↦ absurd (settled (Two a.id b.id) (record {
+      delivery = together a b;
+      came_in = pair_came types past legal a b (there a (Contains-there b (a ∷ []) a (Contains-here a []))) (there b (Contains-here b (a ∷ [])));
+      waiting = still.0;
+      may_follow = still.1;
+    }))
+  ]
+
+  -- a settled journal delivered all that causal deliveries of events that came to it deliver
+  settled_delivers : HasNoNext types past → (ds : List Delivery) → IsCausal types ds → ((e : Event) → Contains (all_events ds) e → Contains (came past) e) → AreDelivered past (all_events ds)
+  settled_delivers settled [] h there e inside = absurd (Contains-nil e inside)
+  settled_delivers settled (d ∷ ds) h there e inside =
+      let before = settled_delivers settled ds h.1 (λ x older. there x (Contains-there_events d (all_events ds) x older)) in
+      elim (Contains-split d ds e inside) [
+        | inr older ↦ before e older
+        | inl newest ↦ settled_delivered settled ds (numbered types ds h.1) before d (λ x its. there x (Contains-newest d ds x its)) h.0 e newest
+      ]
+
+-- a settled journal delivered all that another delivers whose events came to it too
+pub settled_has : (types : TypeTable) (past other : List Entry) → IsLegalPast types past → IsLegalPast types other → HasNoNext types past → ((e : Event) → Contains (came other) e → Contains (came past) e) → (e : Event) → Contains (delivered other) e → Contains (delivered past) e
+settled_has types past other legal other_legal settled came_too e inside =
+    settled_delivers types past legal settled (deliveries other) (causal types other other_legal) (λ x its. came_too x (delivered_came types other other_legal x its)) e inside
+
+-- what came stays
+came_grows : (newer past : List Entry) (e : Event) → Contains (came past) e → Contains (came (newer ++ past)) e
+came_grows [] past e inside = inside
+came_grows (Came collector x ∷ newer) past e inside = Contains-there x (came (newer ++ past)) e (came_grows newer past e inside)
+came_grows (Gone a ∷ newer) past e inside = came_grows newer past e inside
+came_grows (Pair a b ∷ newer) past e inside = came_grows newer past e inside
+came_grows (Ended collector ∷ newer) past e inside = came_grows newer past e inside
+
+-- a block delivers the same after more entries
+delivery_stays : (types : TypeTable) (newer past : List Entry) → IsLegalPast types (newer ++ past) → (block : Block) (d : Delivery) → delivery_of (came past) block ≡ Some d → delivery_of (came (newer ++ past)) block ≡ Some d
+delivery_stays types newer past legal (One a) d is =
+    let found = delivery_of-one (came past) a d is in
+    let member = event_of-member (came past) a found.0 found.1 in
+    let there = event_of-came types (newer ++ past) legal found.0 (came_grows newer past found.0 member.0) in
+    let there_too : event_of (came (newer ++ past)) a ≡ Some found.0 = subst (λ (id : EventId). event_of (came (newer ++ past)) id ≡ Some found.0) member.1 there in
+    ap (λ o. option_map alone o) there_too ∙ ap Some (sym found.2)
+delivery_stays types newer past legal (Two a b) d is =
+    let found = delivery_of-two (came past) a b d is in
+    let first = event_of-member (came past) a found.0 found.2 in
+    let second = event_of-member (came past) b found.1 found.3 in
+    let pair = pair_came types (newer ++ past) legal found.0 found.1 (came_grows newer past found.0 first.0) (came_grows newer past found.1 second.0) in
+    ap (λ (id : EventId). delivery_of (came (newer ++ past)) (Two id b)) (sym first.1)
+    ∙ (ap (λ (id : EventId). delivery_of (came (newer ++ past)) (Two found.0.id id)) (sym second.1) ∙ (pair ∙ ap Some (sym found.4)))
+
+-- an enabled block stays enabled after more entries, or its events are delivered
+pub stays_enabled : (types : TypeTable) (newer past : List Entry) → IsLegalPast types (newer ++ past) → IsLegalPast types past → AreDelivered (newer ++ past) (delivered past) → (block : Block) → (enabled : IsEnabled types past block) → IsEnabled types (newer ++ past) block ⊎ AreDelivered (newer ++ past) (events_of enabled.delivery)
+stays_enabled types newer past legal before_legal grows block enabled =
+    elim (delivered_or_follows types (newer ++ past) legal (deliveries past) (delivered_numbered types past before_legal) grows enabled.delivery
+    (λ e its. came_grows newer past e (delivery_inside (came past) block enabled.delivery enabled.came_in e its)) enabled.may_follow) [
+      | inl gone ↦ inr gone
+      | inr still ↦ inl (record {
+        delivery = enabled.delivery;
+        came_in = delivery_stays types newer past legal block enabled.delivery enabled.came_in;
+        waiting = still.0;
+        may_follow = still.1;
+      })
+    ]

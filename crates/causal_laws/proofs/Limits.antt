@@ -1,0 +1,376 @@
+use Rattle.std.proofs.Common.{◌≡◌, ◌≤◌, ◌+◌, ◌-◌, ℕ, suc, zero, ◌⊎◌, inl, inr, List, [], ◌∷◌, ◌++◌, refl, sym, ◌∙◌, ap, subst, arith}
+use Rattle.std.specs.Prelude.{Contains, ◌↔◌}
+use Rattle.std.proofs.lemmas.Bool.{cases_eq, cases_lt}
+use Rattle.causal_base.specs.declared.event.Event.{Event}
+use Rattle.causal_base.specs.declared.kind.Kind.TheVariants.{Unary, Send, Sync}
+use Rattle.causal_base.specs.Types.{TypeTable}
+use Rattle.causal_base.specs.Event.{IsOfKind, Names, Fits, Pairs}
+use Rattle.causal_base.specs.Walks.{Succeeds, Step, Walk, Reaches}
+use Rattle.causal_base.specs.History.{Delivery, alone, together, events_of, all_events, count_on, IsNextOfTrace, IsReady, IsCausal}
+use Rattle.causal_base.proofs.Ids.{same_id}
+use Rattle.causal_base.proofs.Members.{Contains-cons, Contains-here, Contains-there, Contains-nil}
+use Rattle.causal_base.proofs.Numbered.{IsNumbered, number_within, event_at, same_event}
+use Rattle.causal_base.proofs.Histories.{same_name, fits_no, numbered, step_back, reaches_back, reaches_grows, Contains-there_events}
+use Rattle.causal_base.proofs.Marks.{reaches_step}
+use Rattle.causal_laws.proofs.Blocks.{ready_no_sync}
+use Rattle.causal_laws.proofs.Clocks.{count_on-added}
+use Rattle.causal_laws.proofs.OwnHistories.{Contains-newest, Contains-split, newest_is_next, newest_is_new}
+
+-- a walk may be followed by another
+walk_on : (types : TypeTable) (events : List Event) (through onward : List Event) (x y z : Event) → Walk types events x through y → Walk types events y onward z → Walk types events x (through ++ onward) z
+walk_on types events [] onward x y z one other = subst (λ (v : Event). Walk types events v onward z) (sym one) other
+walk_on types events (w ∷ through) onward x y z one other = (one.0, walk_on types events through onward w y z one.1 other)
+
+pub reaches_on : (types : TypeTable) (events : List Event) (x y z : Event) → Reaches types events x y → Reaches types events y z → Reaches types events x z
+reaches_on types events x y z one other = record {
+  among = one.among;
+  through = one.through ++ other.through;
+  walk = walk_on types events one.through other.through x y z one.walk other.walk;
+}
+
+pub reaches_itself : (types : TypeTable) (events : List Event) (x : Event) → Contains events x → Reaches types events x x
+reaches_itself types events x inside = record { among = inside; through = []; walk = refl }
+
+pub step_reaches : (types : TypeTable) (events : List Event) (x y : Event) → Step types events x y → Reaches types events x y
+step_reaches types events x y step = reaches_step types events x y y step (reaches_itself types events y step.to)
+
+module _ (types : TypeTable) (events : List Event) (all_numbered : IsNumbered events) where
+  reaches_after : (more : ℕ) (x y : Event) → Contains events x → Contains events y → x.id.trace ≡ y.id.trace → y.id.number ≡ more + x.id.number → Reaches types events x y
+  reaches_after zero x y in_x in_y trace number =
+      let same_number : x.id.number ≡ y.id.number = omega (arith, number) in
+      let same = same_event events all_numbered x y in_x in_y (same_id x.id y.id trace same_number) in
+      subst (λ (v : Event). Reaches types events x v) same (reaches_itself types events x in_x)
+  reaches_after (suc more) x y in_x in_y trace number =
+      let least_x = (number_within events all_numbered x in_x).0 in
+      let most_y = (number_within events all_numbered y in_y).1 in
+      let least : 1 ≤ more + x.id.number = omega (arith, least_x) in
+      let most : more + x.id.number ≤ count_on y.id.trace events = omega (arith, most_y, number) in
+      let z = event_at events all_numbered y.id.trace (more + x.id.number) least most in
+      let before = reaches_after more x z.0 in_x z.1 (trace ∙ sym z.2) z.3 in
+      let next : y.id.number ≡ z.0.id.number + 1 = omega (arith, number, z.3) in
+      let step : Step types events z.0 y = record { from = z.1; to = in_y; cause = inl (record { trace = sym z.2; number = next }) } in
+      reaches_on types events x z.0 y before (step_reaches types events z.0 y step)
+
+  -- an event reaches the later ones of its trace
+  pub reaches_later : (x y : Event) → Contains events x → Contains events y → x.id.trace ≡ y.id.trace → x.id.number ≤ y.id.number → Reaches types events x y
+  reaches_later x y in_x in_y trace order =
+      let more : y.id.number ≡ (y.id.number - x.id.number) + x.id.number = omega (arith, order) in
+      reaches_after (y.id.number - x.id.number) x y in_x in_y trace more
+
+-- The events of the trace that have the property are those with a number up to the limit.
+pub record IsLimit (events : List Event) (trace : ℕ) (Property : Event → Type 0) (limit : ℕ) : Type 0 where
+  pub most : limit ≤ count_on trace events
+  pub to : (x : Event) → Contains events x → x.id.trace ≡ trace → x.id.number ≤ limit → Property x
+  pub from : (x : Event) → Contains events x → x.id.trace ≡ trace → Property x → x.id.number ≤ limit
+
+abbrev pub HasLimit : List Event → ℕ → (Event → Type 0) → Type 0
+HasLimit events trace Property = (limit : ℕ) × IsLimit events trace Property limit
+
+module _ (events : List Event) (all_numbered : IsNumbered events) (trace : ℕ) where
+  limit_none : (P : Event → Type 0) → ((x : Event) → Contains events x → x.id.trace ≡ trace → P x → ⊥) → HasLimit events trace P
+  limit_none P none = (
+    0,
+    record {
+      most = omega arith;
+      to = λ x inside on few. let least = (number_within events all_numbered x inside).0 in absurd (omega (arith, few, least));
+      from = λ x inside on is. absurd (none x inside on is);
+    },
+  )
+
+  limit_all : (P : Event → Type 0) → ((x : Event) → Contains events x → x.id.trace ≡ trace → P x) → HasLimit events trace P
+  limit_all P each = (
+    count_on trace events,
+    record {
+      most = omega arith;
+      to = λ x inside on few. each x inside on;
+      from = λ x inside on is. subst (λ t. x.id.number ≤ count_on t events) on (number_within events all_numbered x inside).1;
+    },
+  )
+
+  limit_same : (P Q : Event → Type 0) → ((x : Event) → Contains events x → x.id.trace ≡ trace → P x ↔ Q x) → HasLimit events trace P → HasLimit events trace Q
+  limit_same P Q same its = (
+    its.0,
+    record {
+      most = its.1.most;
+      to = λ x inside on few. (same x inside on).0 (its.1.to x inside on few);
+      from = λ x inside on is. its.1.from x inside on ((same x inside on).1 is);
+    },
+  )
+
+  limit_either : (P Q : Event → Type 0) → HasLimit events trace P → HasLimit events trace Q → HasLimit events trace (λ x. P x ⊎ Q x)
+  limit_either P Q one other = elim (cases_lt one.0 other.0) [
+    | inl less ↦ (
+      other.0,
+      record {
+        most = other.1.most;
+        to = λ x inside on few. inr (other.1.to x inside on few);
+        from = λ x inside on is. elim is [ inl p ↦ (let its = one.1.from x inside on p in omega (arith, its, less)) | inr q ↦ other.1.from x inside on q ];
+      },
+    )
+    | inr more ↦ (
+      one.0,
+      record {
+        most = one.1.most;
+        to = λ x inside on few. inl (one.1.to x inside on few);
+        from = λ x inside on is. elim is [ inl p ↦ one.1.from x inside on p | inr q ↦ (let its = other.1.from x inside on q in omega (arith, its, more)) ];
+      },
+    )
+  ]
+
+-- one step before an event, on its own trace or as what it fits
+abbrev IsSource : TypeTable → Event → Event → Type 0
+IsSource types z w = Succeeds z w ⊎ Fits types w z
+
+-- it reaches one of the events, which lies one step before this one
+abbrev ReachesSource : TypeTable → List Event → Event → Event → Type 0
+ReachesSource types events w x = (z : Event) × Contains events z × Reaches types events x z × IsSource types z w
+
+-- an event that fits none of the events, or one
+abbrev FitsOne : TypeTable → List Event → Event → Type 0
+FitsOne types events w = ((z : Event) → Fits types w z → ⊥) ⊎ ((cause : Event) × Contains events cause × Fits types w cause)
+
+ready_fits_one : (types : TypeTable) (events : List Event) (w : Event) → IsReady types events w → FitsOne types events w
+ready_fits_one types events w ready = elim ready [
+  | inl unary ↦ inl (λ z fits. fits_no types w z Unary fits unary (λ p. cc) (λ p. cc))
+  | inr rest ↦ elim rest
+      [ inl send ↦ inl (λ z fits. fits_no types w z Send fits send (λ p. cc) (λ p. cc)) | inr cause ↦ inr cause ]
+]
+
+module _ (types : TypeTable) (ds : List Delivery) (causal : IsCausal types ds) (trace : ℕ) (limits : (e : Event) → Contains (all_events ds) e → HasLimit (all_events ds) trace (λ x. Reaches types (all_events ds) x e)) where
+  -- what reaches the event before the next of a trace
+  before_next : (w : Event) → IsNextOfTrace (all_events ds) w → HasLimit (all_events ds) trace (λ x. (z : Event) × Contains (all_events ds) z × Reaches types (all_events ds) x z × Succeeds z w)
+  before_next w next = elim (cases_lt 0 (count_on w.id.trace (all_events ds))) [
+    | inr none ↦ limit_none (all_events ds) (numbered types ds causal) trace _ (λ x inside on source.
+        let within = number_within (all_events ds) (numbered types ds causal) source.0 source.1 in
+        let few : source.0.id.number ≤ count_on w.id.trace (all_events ds) = subst (λ t. source.0.id.number ≤ count_on t (all_events ds)) (sym source.3.trace) within.1 in
+        omega (arith, within.0, few, none))
+    | inl some ↦
+        let last = event_at (all_events ds) (numbered types ds causal) w.id.trace (count_on w.id.trace (all_events ds)) some (omega arith) in
+        let succeeds : Succeeds last.0 w = record { trace = sym last.2; number = next ∙ ap (λ n. n + 1) (sym last.3) } in
+        limit_same (all_events ds) (numbered types ds causal) trace (λ x. Reaches types (all_events ds) x last.0) _ (λ x inside on. (
+          (λ reaches. (last.0, last.1, reaches, succeeds)),
+          (λ source.
+              let number : source.0.id.number ≡ last.0.id.number = omega (arith, source.3.number, succeeds.number) in
+              let same = same_event (all_events ds) (numbered types ds causal) source.0 last.0 source.1 last.1 (same_id source.0.id last.0.id (sym source.3.trace ∙ sym last.2) number) in
+              subst (λ (v : Event). Reaches types (all_events ds) x v) same source.2),
+        )) (limits last.0 last.1)
+  ]
+
+  -- what reaches the event that one fits
+  before_fit : (w : Event) → FitsOne types (all_events ds) w → HasLimit (all_events ds) trace (λ x. (z : Event) × Contains (all_events ds) z × Reaches types (all_events ds) x z × Fits types w z)
+  before_fit w one = elim one [
+    | inl none ↦ limit_none (all_events ds) (numbered types ds causal) trace _ (λ x inside on source. none source.0 source.3)
+    | inr some ↦ limit_same (all_events ds) (numbered types ds causal) trace (λ x. Reaches types (all_events ds) x some.0) _ (λ x inside on. (
+      (λ reaches. (some.0, some.1, reaches, some.2)),
+      (λ source.
+          let same = same_event (all_events ds) (numbered types ds causal) source.0 some.0 source.1 some.1 (same_name w source.0 some.0 source.3.names some.2.names) in
+          subst (λ (v : Event). Reaches types (all_events ds) x v) same source.2),
+    )) (limits some.0 some.1)
+  ]
+
+  -- what reaches a source of the event
+  before_one : (w : Event) → IsNextOfTrace (all_events ds) w → FitsOne types (all_events ds) w → HasLimit (all_events ds) trace (λ x. ReachesSource types (all_events ds) w x)
+  before_one w next one =
+      limit_same (all_events ds) (numbered types ds causal) trace _ _ (λ x inside on. (
+        (λ either. elim either
+            [ inl source ↦ (source.0, source.1, source.2, inl source.3) | inr source ↦ (source.0, source.1, source.2, inr source.3) ]),
+        (λ source. elim source.3
+            [ inl succeeds ↦ inl (source.0, source.1, source.2, succeeds) | inr fits ↦ inr (source.0, source.1, source.2, fits) ]),
+      )) (limit_either (all_events ds) (numbered types ds causal) trace _ _ (before_next w next) (before_fit w one))
+
+  -- what reaches a source of the newest delivery
+  before_newest : (d : Delivery) → IsCausal types (d ∷ ds) → HasLimit (all_events ds) trace (λ x. (w : Event) × Contains (events_of d) w × ReachesSource types (all_events ds) w x)
+  before_newest (alone e) new =
+      limit_same (all_events ds) (numbered types ds causal) trace (λ x. ReachesSource types (all_events ds) e x) _ (λ x inside on. (
+        (λ source. (e, Contains-here e [], source)),
+        (λ some. elim (Contains-cons e [] some.0 some.1)
+            [ inl is ↦ subst (λ (v : Event). ReachesSource types (all_events ds) v x) (sym is) some.2 | inr none ↦ absurd (Contains-nil some.0 none) ]),
+      )) (before_one e new.0.0 (ready_fits_one types (all_events ds) e new.0.1))
+  before_newest (together a b) new =
+      limit_same (all_events ds) (numbered types ds causal) trace (λ x. ReachesSource types (all_events ds) a x ⊎ ReachesSource types (all_events ds) b x) _ (λ x inside on. (
+        (λ either. elim either
+            [ inl source ↦ (a, Contains-there b (a ∷ []) a (Contains-here a []), source) | inr source ↦ (b, Contains-here b (a ∷ []), source) ]),
+        (λ some. elim (Contains-cons b (a ∷ []) some.0 some.1) [
+          | inl is ↦ inr (subst (λ (v : Event). ReachesSource types (all_events ds) v x) (sym is) some.2)
+          | inr rest ↦ elim (Contains-cons a [] some.0 rest)
+              [ inl is ↦ inl (subst (λ (v : Event). ReachesSource types (all_events ds) v x) (sym is) some.2) | inr none ↦ absurd (Contains-nil some.0 none) ]
+        ]),
+      )) (limit_either (all_events ds) (numbered types ds causal) trace _ _
+      (before_one a new.0.0 (inl (λ z fits. fits_no types a z Sync fits new.0.2.first (λ p. cc) (λ p. cc))))
+      (before_one b new.0.1 (inl (λ z fits. fits_no types b z Sync fits new.0.2.second (λ p. cc) (λ p. cc)))))
+
+pub pairs_swapped : (types : TypeTable) (a b : Event) → Pairs types a b → Pairs types b a
+pairs_swapped types a b pairs = record {
+  traces = λ same. pairs.traces (sym same);
+  forth = pairs.back;
+  back = pairs.forth;
+  first = pairs.second;
+  second = pairs.first;
+  mates = record { forth = pairs.mates.back; back = pairs.mates.forth };
+}
+
+-- a delivery has an event on this trace, or none
+on_newest : (d : Delivery) (trace : ℕ) → ((w : Event) × Contains (events_of d) w × (w.id.trace ≡ trace)) ⊎ ((w : Event) → Contains (events_of d) w → w.id.trace ≡ trace → ⊥)
+on_newest (alone e) trace = elim (cases_eq e.id.trace trace) [
+  | inl is ↦ inl (e, Contains-here e [], is)
+  | inr other ↦ inr (λ w inside on. other (elim (Contains-cons e [] w inside)
+      [ inl same ↦ ap (λ (v : Event). v.id.trace) same ∙ on | inr none ↦ absurd (Contains-nil w none) ]))
+]
+on_newest (together a b) trace = elim (cases_eq a.id.trace trace) [
+  | inl is ↦ inl (a, Contains-there b (a ∷ []) a (Contains-here a []), is)
+  | inr not_a ↦ elim (cases_eq b.id.trace trace) [
+    | inl is ↦ inl (b, Contains-here b (a ∷ []), is)
+    | inr not_b ↦ inr (λ w inside on. elim (Contains-cons b (a ∷ []) w inside) [
+      | inl same ↦ not_b (ap (λ (v : Event). v.id.trace) same ∙ on)
+      | inr rest ↦ elim (Contains-cons a [] w rest)
+          [ inl same ↦ not_a (ap (λ (v : Event). v.id.trace) same ∙ on) | inr none ↦ absurd (Contains-nil w none) ]
+    ])
+  ]
+]
+
+module _ (types : TypeTable) (ds : List Delivery) where
+  -- the events of the newest delivery reach each other
+  newest_reach : (d : Delivery) → IsCausal types (d ∷ ds) → (x e : Event) → Contains (events_of d) x → Contains (events_of d) e → Reaches types (all_events (d ∷ ds)) x e
+  newest_reach (alone v) causal x e in_x in_e = elim (Contains-cons v [] x in_x) [
+    | inr none ↦ absurd (Contains-nil x none)
+    | inl is_x ↦ elim (Contains-cons v [] e in_e) [
+      | inr none ↦ absurd (Contains-nil e none)
+      | inl is_e ↦ subst (λ (u : Event). Reaches types (v ∷ all_events ds) x u) (sym is_x ∙ is_e) (reaches_itself types (v ∷ all_events ds) x (Contains-newest (alone v) ds x in_x))
+    ]
+  ]
+  newest_reach (together a b) causal x e in_x in_e = elim (Contains-cons b (a ∷ []) x in_x) [
+    | inl is_x ↦ elim (Contains-cons b (a ∷ []) e in_e) [
+      | inl is_e ↦ subst (λ (u : Event). Reaches types events x u) (sym is_x ∙ is_e) (reaches_itself types events x (Contains-newest (together a b) ds x in_x))
+      | inr rest ↦ elim (Contains-cons a [] e rest) [
+        | inl is_e ↦ subst (λ (u : Event). Reaches types events u e) is_x (subst (λ (u : Event). Reaches types events b u) is_e (step_reaches types events b a back))
+        | inr none ↦ absurd (Contains-nil e none)
+      ]
+    ]
+    | inr rest_x ↦ elim (Contains-cons a [] x rest_x) [
+      | inr none ↦ absurd (Contains-nil x none)
+      | inl is_x ↦ elim (Contains-cons b (a ∷ []) e in_e) [
+        | inl is_e ↦ subst (λ (u : Event). Reaches types events u e) is_x (subst (λ (u : Event). Reaches types events a u) is_e (step_reaches types events a b forth))
+        | inr rest ↦ elim (Contains-cons a [] e rest) [
+          | inl is_e ↦ subst (λ (u : Event). Reaches types events x u) (sym is_x ∙ is_e) (reaches_itself types events x (Contains-newest (together a b) ds x in_x))
+          | inr none ↦ absurd (Contains-nil e none)
+        ]
+      ]
+    ]
+  ]
+    where
+      events : List Event
+      events = all_events (together a b ∷ ds)
+
+      forth : Step types (all_events (together a b ∷ ds)) a b
+      forth = record { from = Contains-there b (a ∷ all_events ds) a (Contains-here a (all_events ds)); to = Contains-here b (a ∷ all_events ds); cause = inr (inr causal.0.2) }
+
+      back : Step types (all_events (together a b ∷ ds)) b a
+      back = record { from = Contains-here b (a ∷ all_events ds); to = Contains-there b (a ∷ all_events ds) a (Contains-here a (all_events ds)); cause = inr (inr (pairs_swapped types a b causal.0.2)) }
+
+  -- the partner of an event of the newest delivery is of it too
+  pub partner_is_new : (d : Delivery) → IsCausal types (d ∷ ds) → (x y : Event) → Contains (events_of d) y → Pairs types x y → (v : Event) × Contains (events_of d) v × (v.id ≡ x.id)
+  partner_is_new (alone e) causal x y inside pairs = elim (Contains-cons e [] y inside) [
+    | inl is ↦ absurd (ready_no_sync types (all_events ds) e causal.0.1 (subst (λ (v : Event). IsOfKind types v Sync) (sym is) pairs.second))
+    | inr none ↦ absurd (Contains-nil y none)
+  ]
+  partner_is_new (together a b) causal x y inside pairs = elim (Contains-cons b (a ∷ []) y inside) [
+    | inl is ↦ (a, Contains-there b (a ∷ []) a (Contains-here a []), same_name b a x causal.0.2.back (subst (λ (v : Event). Names v x) (sym is) pairs.back))
+    | inr rest ↦ elim (Contains-cons a [] y rest) [
+      | inl is ↦ (b, Contains-here b (a ∷ []), same_name a b x causal.0.2.forth (subst (λ (v : Event). Names v x) (sym is) pairs.back))
+      | inr none ↦ absurd (Contains-nil y none)
+    ]
+  ]
+
+  -- a walk from an older event to one of the newest delivery goes by a source of that delivery
+  goes_by_source : (d : Delivery) → IsCausal types (d ∷ ds) → (through : List Event) (x e : Event) → Contains (all_events ds) x → Contains (events_of d) e → Walk types (all_events (d ∷ ds)) x through e → (w : Event) × Contains (events_of d) w × ReachesSource types (all_events ds) w x
+  goes_by_source d causal [] x e old new walk = absurd (newest_is_new types d ds causal e x new old (ap (λ (v : Event). v.id) (sym walk)))
+  goes_by_source d causal (y ∷ through) x e old new walk = elim (Contains-split d ds y walk.0.to) [
+    | inr older ↦
+        let rest = goes_by_source d causal through y e older new walk.1 in
+        let step = step_back types d ds causal x y older walk.0 in
+        (rest.0, rest.1, (rest.2.0, rest.2.1, reaches_step types (all_events ds) x y rest.2.0 step rest.2.2, rest.2.3))
+    | inl newest ↦ (
+      y,
+      newest,
+      (
+        x,
+        old,
+        reaches_itself types (all_events ds) x old,
+        elim walk.0.cause [
+          | inl succeeds ↦ inl succeeds
+          | inr cause ↦ elim cause [
+            | inl fits ↦ inr fits
+            | inr pairs ↦ absurd (let v = partner_is_new d causal x y newest pairs in newest_is_new types d ds causal v.0 x v.1 old v.2)
+          ]
+        ],
+      ),
+    )
+  ]
+
+module _ (types : TypeTable) (d : Delivery) (ds : List Delivery) (causal : IsCausal types (d ∷ ds)) (trace : ℕ) where
+  most_grows : (limit : ℕ) → limit ≤ count_on trace (all_events ds) → limit ≤ count_on trace (all_events (d ∷ ds))
+  most_grows limit most = let grows = count_on-added trace (d ∷ []) ds in omega (arith, most, grows)
+
+  -- an event with a number up to the count of the older ones is one of them
+  older_by_number : (x : Event) → Contains (all_events (d ∷ ds)) x → x.id.number ≤ count_on x.id.trace (all_events ds) → Contains (all_events ds) x
+  older_by_number x inside few = elim (Contains-split d ds x inside)
+      [ inl new ↦ absurd (let next = newest_is_next types d ds causal x new in omega (arith, few, next)) | inr old ↦ old ]
+
+  older_by_limit : (limit : ℕ) → limit ≤ count_on trace (all_events ds) → (x : Event) → Contains (all_events (d ∷ ds)) x → x.id.trace ≡ trace → x.id.number ≤ limit → Contains (all_events ds) x
+  older_by_limit limit most x inside on few =
+      let most_too : limit ≤ count_on x.id.trace (all_events ds) = subst (λ t. limit ≤ count_on t (all_events ds)) (sym on) most in
+      older_by_number x inside (omega (arith, few, most_too))
+
+  -- the newest delivery leaves the limit of an older event
+  limit_of_old : (e : Event) → Contains (all_events ds) e → HasLimit (all_events ds) trace (λ x. Reaches types (all_events ds) x e) → HasLimit (all_events (d ∷ ds)) trace (λ x. Reaches types (all_events (d ∷ ds)) x e)
+  limit_of_old e old its = (
+    its.0,
+    record {
+      most = most_grows its.0 its.1.most;
+      to = λ x inside on few. reaches_grows types d ds x e (its.1.to x (older_by_limit its.0 its.1.most x inside on few) on few);
+      from = λ x inside on reaches. let back = reaches_back types d ds causal x e old reaches in its.1.from x back.among on back;
+    },
+  )
+
+  -- an event of the newest delivery is reached by all that is on its trace
+  reaches_newest : (x w : Event) → Contains (all_events (d ∷ ds)) x → Contains (events_of d) w → x.id.trace ≡ w.id.trace → Reaches types (all_events (d ∷ ds)) x w
+  reaches_newest x w inside new on = elim (Contains-split d ds x inside) [
+    | inl newest ↦ newest_reach types ds d causal x w newest new
+    | inr old ↦
+        let next = newest_is_next types d ds causal w new in
+        let most : x.id.number ≤ count_on w.id.trace (all_events ds) = subst (λ t. x.id.number ≤ count_on t (all_events ds)) on (number_within (all_events ds) (numbered types ds causal.1) x old).1 in
+        reaches_later types (all_events (d ∷ ds)) (numbered types (d ∷ ds) causal) x w inside (Contains-newest d ds w new) on (omega (arith, next, most))
+  ]
+
+  -- on another trace the limit is that of the sources
+  limit_of_new : (e : Event) → Contains (events_of d) e → ((w : Event) → Contains (events_of d) w → w.id.trace ≡ trace → ⊥) → HasLimit (all_events ds) trace (λ x. (w : Event) × Contains (events_of d) w × ReachesSource types (all_events ds) w x) → HasLimit (all_events (d ∷ ds)) trace (λ x. Reaches types (all_events (d ∷ ds)) x e)
+  limit_of_new e new none its = (
+    its.0,
+    record {
+      most = most_grows its.0 its.1.most;
+      to = λ x inside on few.
+          let by = its.1.to x (older_by_limit its.0 its.1.most x inside on few) on few in
+          let cause : Succeeds by.2.0 by.0 ⊎ (Fits types by.0 by.2.0 ⊎ Pairs types by.2.0 by.0) = elim by.2.3 [ inl succeeds ↦ inl succeeds | inr fits ↦ inr (inl fits) ] in
+          let step : Step types (all_events (d ∷ ds)) by.2.0 by.0 = record { from = Contains-there_events d (all_events ds) by.2.0 by.2.1; to = Contains-newest d ds by.0 by.1; cause = cause } in
+          reaches_on types (all_events (d ∷ ds)) x by.2.0 e (reaches_grows types d ds x by.2.0 by.2.2)
+          (reaches_step types (all_events (d ∷ ds)) by.2.0 by.0 e step (newest_reach types ds d causal by.0 e by.1 new));
+      from = λ x inside on reaches. elim (Contains-split d ds x inside) [
+        | inl newest ↦ absurd (none x newest on)
+        | inr old ↦ its.1.from x old on (goes_by_source types ds d causal reaches.through x e old new reaches.walk)
+      ];
+    },
+  )
+
+-- each event has a limit of what reaches it, on each trace
+pub reach_limit : (types : TypeTable) (ds : List Delivery) → IsCausal types ds → (trace : ℕ) (e : Event) → Contains (all_events ds) e → HasLimit (all_events ds) trace (λ x. Reaches types (all_events ds) x e)
+reach_limit types [] causal trace e inside = absurd (Contains-nil e inside)
+reach_limit types (d ∷ ds) causal trace e inside = elim (Contains-split d ds e inside) [
+  | inr old ↦ limit_of_old types d ds causal trace e old (reach_limit types ds causal.1 trace e old)
+  | inl new ↦ elim (on_newest d trace) [
+    | inl some ↦ limit_all (all_events (d ∷ ds)) (numbered types (d ∷ ds) causal) trace _ (λ x there on.
+        reaches_on types (all_events (d ∷ ds)) x some.0 e
+        (reaches_newest types d ds causal trace x some.0 there some.1 (on ∙ sym some.2))
+        (newest_reach types ds d causal some.0 e some.1 new))
+    | inr none ↦ limit_of_new types d ds causal trace e new none (before_newest types ds causal.1 trace (λ v old. reach_limit types ds causal.1 trace v old) d causal)
+  ]
+]

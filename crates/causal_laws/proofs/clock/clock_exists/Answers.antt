@@ -1,0 +1,9 @@
+-- It is the limit of what reaches the event on the trace.
+use Rattle.causal_base.proofs.Pasts.{causal}
+use Rattle.causal_base.specs.Journal.{deliveries_by}
+use Rattle.causal_laws.proofs.Entries.{has_clock}
+use Rattle.std.specs.Prelude.{reverse}
+use Rattle.causal_laws.proofs.clock.clock_exists.Goals as goal
+
+pub returns : goal.returns
+returns c types journal legal e there trace = has_clock types (deliveries_by journal) (causal types (reverse journal) legal) e there trace

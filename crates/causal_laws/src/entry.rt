@@ -1,0 +1,32 @@
+ghost use Rattle.std.specs.Prelude.{◌≡◌, ◌<◌, ◌↔◌, ℕ, true, false, List, Contains};
+ghost use Rattle.causal_base.specs.declared.entry.Entry.{Entry};
+ghost use Rattle.causal_base.specs.declared.event.Event.{Event};
+ghost use Rattle.causal_base.specs.Types.{TypeTable};
+ghost use Rattle.causal_base.specs.Walks.{Walk};
+ghost use Rattle.causal_base.specs.Clocks.{IsClock};
+ghost use Rattle.causal_base.specs.Clusters.{Clustering};
+ghost use Rattle.causal_base.specs.Journal.{IsLegal, delivered_by, deliveries_by};
+ghost use Rattle.causal_base.specs.Stamps.{level_of, is_member, IsGreatestOfEntries};
+
+/// A walk to an event from a trace that is none of its members goes through an event of a member that has a greater
+/// level.
+pub fn walk_enters_above()
+    ensures { (types : TypeTable) (clustering : Clustering) (journal : List Entry) → IsLegal types journal
+        → (e : Event) → Contains (delivered_by journal) e
+        → (a : Event) (through : List Event) → Walk types (delivered_by journal) a through e
+        → is_member clustering (deliveries_by journal) e.id a.id.trace ≡ false
+        → (at : Event) × Contains through at
+        × (is_member clustering (deliveries_by journal) e.id at.id.trace ≡ true)
+        × (level_of clustering (deliveries_by journal) e.id < level_of clustering (deliveries_by journal) at.id) }
+{}
+
+/// The entry law: for a trace that is none of its members, the clock of an event is the greatest of the clocks of its
+/// entries, and 0 where it has none.
+pub fn clock_is_greatest_of_entries()
+    ensures { (types : TypeTable) (clustering : Clustering) (journal : List Entry) → IsLegal types journal
+        → (e : Event) → Contains (delivered_by journal) e
+        → (trace : ℕ) → is_member clustering (deliveries_by journal) e.id trace ≡ false
+        → (n : ℕ)
+        → (IsClock types (delivered_by journal) e trace n)
+        ↔ (IsGreatestOfEntries types clustering (deliveries_by journal) e trace n) }
+{}

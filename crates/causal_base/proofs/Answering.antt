@@ -1,16 +1,18 @@
-use Rattle.std.proofs.Common.{◌≡◌, ◌≢◌, ◌<◌, ◌≤◌, List, reverse, sym, ◌∙◌, ap, subst, arith, Bool, true}
+use Rattle.std.proofs.Common.{◌≡◌, ◌≢◌, ◌<◌, ◌≤◌, List, reverse, sym, ◌∙◌, ap, subst, arith, ◌⊎◌, inl, inr, length, Bool, true, false}
 use Rattle.std.specs.Prelude.{Contains}
 use Rattle.causal_base.specs.declared.entry.Entry.{Entry}
 use Rattle.causal_base.specs.declared.event.Event.{Event}
 use Rattle.causal_base.specs.declared.event_id.EventId.{EventId}
 use Rattle.causal_base.specs.Types.{TypeTable}
+use Rattle.causal_base.specs.Event.{Pairs}
 use Rattle.causal_base.specs.History.{count_on}
 use Rattle.causal_base.specs.Past.{came, delivered, HasEvent}
 use Rattle.causal_base.specs.Asked.{SaysWhetherBefore}
 use Rattle.causal_base.specs.Marking.{HasPast}
 use Rattle.causal_base.specs.PlainList.{IsOpenJournal}
 use Rattle.causal_base.proofs.Pasts.{came_fit, delivered_came}
-use Rattle.causal_base.proofs.Ready.{delivered_from_number, number_from_delivered}
+use Rattle.causal_base.proofs.Numbered.{same_event}
+use Rattle.causal_base.proofs.Ready.{delivered_numbered, delivered_from_number, number_from_delivered, type_in_range}
 
 module _ (types : TypeTable) (journal : List Entry) (kept : IsOpenJournal types journal) where
   -- an event that came has a trace that is counted
@@ -36,8 +38,8 @@ module _ (types : TypeTable) (journal : List Entry) (kept : IsOpenJournal types 
   none_delivered id none there = none (there.0, delivered_came types (reverse journal) kept.legal there.0 there.1, there.2)
 
   -- another event is before one exactly where it is in its past
-  pub says_other : (a b : EventId) (x y : Event) → Contains (delivered (reverse journal)) x → x.id ≡ a → Contains (delivered (reverse journal)) y → y.id ≡ b → a ≢ b → (is_marked : EventId → Bool) → HasPast types (delivered (reverse journal)) y is_marked → SaysWhetherBefore types (delivered (reverse journal)) a b (is_marked a)
-  says_other a b x y in_x is_a in_y is_b other is_marked past = record {
+  pub says_other : (a b : EventId) (x y : Event) → Contains (delivered (reverse journal)) x → x.id ≡ a → Contains (delivered (reverse journal)) y → y.id ≡ b → a ≢ b → (Pairs types x y → ⊥) → (is_marked : EventId → Bool) → HasPast types (delivered (reverse journal)) y is_marked → SaysWhetherBefore types (delivered (reverse journal)) a b (is_marked a)
+  says_other a b x y in_x is_a in_y is_b other not_partners is_marked past = record {
     first = x;
     first_among = in_x;
     first_id = is_a;
@@ -48,8 +50,30 @@ module _ (types : TypeTable) (journal : List Entry) (kept : IsOpenJournal types 
       (λ yes. record {
         reaches = (past x in_x).0 (subst (λ i. is_marked i ≡ true) (sym is_a) yes);
         different = λ same. other (sym is_a ∙ ap (λ (e : Event). e.id) same ∙ is_b);
-        apart = λ pairs. kept.no_pairs x.type_no pairs.first;
+        apart = not_partners;
       }),
       (λ before. subst (λ i. is_marked i ≡ true) is_a ((past x in_x).1 before.reaches)),
     );
   }
+
+  -- and neither the same event nor a partner is
+  pub says_no : (a b : EventId) (x y : Event) → Contains (delivered (reverse journal)) x → x.id ≡ a → Contains (delivered (reverse journal)) y → y.id ≡ b → (a ≡ b) ⊎ Pairs types x y → SaysWhetherBefore types (delivered (reverse journal)) a b false
+  says_no a b x y in_x is_a in_y is_b one = record {
+    first = x;
+    first_among = in_x;
+    first_id = is_a;
+    second = y;
+    second_among = in_y;
+    second_id = is_b;
+    says = (
+      (λ yes. absurd (let clash : false ≡ true = yes in cc)),
+      (λ before. elim one [
+        | inl same ↦ absurd (before.different (same_event (delivered (reverse journal)) (delivered_numbered types (reverse journal) kept.legal) x y in_x in_y (is_a ∙ (same ∙ sym is_b))))
+        | inr pairs ↦ absurd (before.apart pairs)
+      ]),
+    );
+  }
+
+  -- a delivered event has a type of the table
+  pub delivered_type : (e : Event) → Contains (delivered (reverse journal)) e → e.type_no < length types.rows
+  delivered_type e gone = type_in_range types e (came_fit types (reverse journal) kept.legal e (delivered_came types (reverse journal) kept.legal e gone))

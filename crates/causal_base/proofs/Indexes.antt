@@ -5,15 +5,15 @@ use Rattle.std.specs.Borrow.{Bor}
 use Rattle.std.specs.BTreeMap.{BTreeMap, get, Updates, is_at}
 use Rattle.std.specs.Cmp.{Equal-is}
 use Rattle.std.specs.Ordering.{nat_cmp}
-use Rattle.std.specs.Prelude.{is_some, option_to_list, slice_index, slice_set}
+use Rattle.std.specs.Prelude.{is_some, option_to_list, option_and_then, slice_index, slice_set}
 use Rattle.std.proofs.lemmas.Bool.{cases_eq}
 use Rattle.std.proofs.lemmas.List.{get_or-set_same, get_or-set_other}
 use Rattle.std.proofs.lemmas.Map.Lookups.{CmpEqualImpliesEq, exact_pairs, exact_unsigned}
 use Rattle.causal_base.specs.declared.entry.Entry.{Entry}
-use Rattle.causal_base.specs.declared.entry.Entry.TheVariants.{Came, Gone}
+use Rattle.causal_base.specs.declared.entry.Entry.TheVariants.{Came, Gone, Pair}
 use Rattle.causal_base.specs.declared.event.Event.{Event}
 use Rattle.causal_base.specs.declared.event_id.EventId.{EventId}
-use Rattle.causal_base.specs.History.{count_on, alone, all_events}
+use Rattle.causal_base.specs.History.{count_on, alone, together, all_events}
 use Rattle.causal_base.specs.Past.{came, deliveries, delivered, event_of, HasEvent}
 use Rattle.causal_base.specs.Index.{id_cmp, CameAt, IsIndexOf}
 use Rattle.causal_base.proofs.Ids.{make_id, event_of-member}
@@ -73,6 +73,21 @@ IsIndexOf-nil places counts none zeros = record {
   accepted_count = refl;
 }
 
+-- the counts after one more event of its trace
+counts_next : (counts : List ℕ) (es : List Event) → length counts ≡ 256 → ((trace : ℕ) → trace < 256 → slice_index counts trace ≡ count_on trace es) → (id : EventId) (e : Event) → e.id ≡ id → id.trace < 256 → (trace : ℕ) → trace < 256 → slice_index (slice_set counts id.trace (slice_index counts id.trace + 1)) trace ≡ count_on trace (e ∷ es)
+counts_next counts es size agree id e is below trace bound = elim (cases_eq trace id.trace) [
+  | inl same ↦
+      ap (λ t. slice_index (set counts id.trace (slice_index counts id.trace + 1)) t) same
+      ∙ get_or-set_same counts id.trace (slice_index counts id.trace + 1) 0 (omega arith)
+      ∙ ap (λ n. n + 1) (agree id.trace below)
+      ∙ sym (count_on-same id.trace e es (ap (λ (i : EventId). i.trace) is))
+      ∙ ap (λ t. count_on t (e ∷ es)) (sym same)
+  | inr other ↦
+      get_or-set_other counts id.trace trace (slice_index counts id.trace + 1) 0 other
+      ∙ agree trace bound
+      ∙ sym (count_on-other trace e es (λ same. other (sym same ∙ ap (λ (i : EventId). i.trace) is)))
+]
+
 module _ (journal : List Entry) (places : BTreeMap EventId ℕ) (counts : List ℕ) (accepted : ℕ) (index : IsIndexOf journal places counts accepted) where
   -- the index after an event came
   pub IsIndexOf-came : (later : BTreeMap EventId ℕ) (e : Event) → Updates id_cmp places later e.id (Some (length journal)) → IsIndexOf (journal ++ Came 0 e ∷ []) later counts (accepted + 1)
@@ -110,20 +125,28 @@ module _ (journal : List Entry) (places : BTreeMap EventId ℕ) (counts : List �
     sound = λ other place at. CameAt-append journal (Gone id ∷ []) place other (index.sound other place at);
     complete = λ x there. index.complete x (subst (λ past. Contains (came past) x) (reverse-push journal (Gone id)) there);
     delivered_counts = λ trace bound.
-        let is : e.id ≡ id = (event_of-member (came (reverse journal)) id e found).1 in
-        elim (cases_eq trace id.trace) [
-          | inl same ↦
-              ap (λ t. slice_index (set counts id.trace (slice_index counts id.trace + 1)) t) same
-              ∙ get_or-set_same counts id.trace (slice_index counts id.trace + 1) 0 (omega arith)
-              ∙ ap (λ n. n + 1) (index.delivered_counts id.trace below)
-              ∙ sym (count_on-same id.trace e (delivered (reverse journal)) (ap (λ (i : EventId). i.trace) is))
-              ∙ ap (λ t. count_on t (e ∷ delivered (reverse journal))) (sym same)
-              ∙ ap (count_on trace) (sym (delivered-gone id e found))
-          | inr other ↦
-              get_or-set_other counts id.trace trace (slice_index counts id.trace + 1) 0 other
-              ∙ index.delivered_counts trace bound
-              ∙ sym (count_on-other trace e (delivered (reverse journal)) (λ same. other (sym same ∙ ap (λ (i : EventId). i.trace) is)))
-              ∙ ap (count_on trace) (sym (delivered-gone id e found))
-        ];
+        counts_next counts (delivered (reverse journal)) size index.delivered_counts id e (event_of-member (came (reverse journal)) id e found).1 below trace bound
+        ∙ ap (count_on trace) (sym (delivered-gone id e found));
     accepted_count = index.accepted_count ∙ ap (λ past. length (came past)) (sym (reverse-push journal (Gone id)));
+  }
+
+  delivered-pair : (a b : EventId) (x y : Event) → event_of (came (reverse journal)) a ≡ Some x → event_of (came (reverse journal)) b ≡ Some y → delivered (reverse (journal ++ Pair a b ∷ [])) ≡ y ∷ x ∷ delivered (reverse journal)
+  delivered-pair a b x y found_a found_b =
+      ap delivered (reverse-push journal (Pair a b))
+      ∙ (ap (λ o. all_events (option_to_list (option_and_then (λ v. option_map (together v) (event_of (came (reverse journal)) b)) o) ++ deliveries (reverse journal))) found_a
+      ∙ ap (λ o. all_events (option_to_list (option_map (together x) o) ++ deliveries (reverse journal))) found_b)
+
+  -- the index after two partners were delivered
+  pub IsIndexOf-pair : (a b : EventId) (x y : Event) → event_of (came (reverse journal)) a ≡ Some x → event_of (came (reverse journal)) b ≡ Some y → a.trace < 256 → b.trace < 256 → length counts ≡ 256
+      → (between : List ℕ) → between ≡ slice_set counts a.trace (slice_index counts a.trace + 1) → length between ≡ 256
+      → IsIndexOf (journal ++ Pair a b ∷ []) places (slice_set between b.trace (slice_index between b.trace + 1)) accepted
+  IsIndexOf-pair a b x y found_a found_b below_a below_b size between is size_too = record {
+    sound = λ other place at. CameAt-append journal (Pair a b ∷ []) place other (index.sound other place at);
+    complete = λ e there. index.complete e (subst (λ past. Contains (came past) e) (reverse-push journal (Pair a b)) there);
+    delivered_counts = λ trace bound.
+        counts_next between (x ∷ delivered (reverse journal)) size_too
+        (λ t within. ap (λ cs. slice_index cs t) is ∙ counts_next counts (delivered (reverse journal)) size index.delivered_counts a x (event_of-member (came (reverse journal)) a x found_a).1 below_a t within)
+        b y (event_of-member (came (reverse journal)) b y found_b).1 below_b trace bound
+        ∙ ap (count_on trace) (sym (delivered-pair a b x y found_a found_b));
+    accepted_count = index.accepted_count ∙ ap (λ past. length (came past)) (sym (reverse-push journal (Pair a b)));
   }

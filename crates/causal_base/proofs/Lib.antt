@@ -9,6 +9,9 @@ pub mod Pigeons
 pub mod Ready
 pub mod Steps
 pub mod Offers
+pub mod Reaching
+pub mod Newest
+pub mod Partners
 pub mod Marks
 pub mod GoingBack
 pub mod Answering

@@ -1,4 +1,4 @@
-use Rattle.std.proofs.Common.{◌≡◌, ◌<◌, ◌≤◌, ◌+◌, ℕ, inl, inr, length, List, ◌∷◌, refl, sym, ◌∙◌, ap, subst, arith, Some, None}
+use Rattle.std.proofs.Common.{◌≡◌, ◌<◌, ◌≤◌, ℕ, inl, inr, length, List, ◌∷◌, refl, sym, ◌∙◌, ap, subst, arith, Some, None}
 use Rattle.std.specs.Prelude.{Contains, IfSome, slice_get}
 use Rattle.std.proofs.lemmas.Option.{slice_get_within}
 use Rattle.std.specs.Option.{option_map}
@@ -13,7 +13,6 @@ use Rattle.causal_base.specs.Types.{TypeTable}
 use Rattle.causal_base.specs.Event.{IsFit, IsInRange, Fits}
 use Rattle.causal_base.specs.History.{alone, count_on, IsNextOfTrace, IsReady, MayFollow}
 use Rattle.causal_base.specs.Past.{came, deliveries, delivered, IsEnabled, HasTrace, IsLegalPast}
-use Rattle.causal_base.specs.PlainList.{HasNoPairs}
 use Rattle.causal_base.proofs.Ids.{same_id, event_of-member}
 use Rattle.causal_base.proofs.Members.{Contains-cons}
 use Rattle.causal_base.proofs.Numbered.{IsNumbered, number_within, event_at}
@@ -53,13 +52,6 @@ module _ (types : TypeTable) (past : List Entry) (legal : IsLegalPast types past
       let follows = subst (MayFollow types (deliveries past)) found.2 enabled.may_follow in
       (found.0, member.0, member.1, follows.0, follows.1)
 
-  -- nothing pairs where no type does
-  pub no_pair_enabled : HasNoPairs types → (a b : EventId) → IsEnabled types past (Two a b) → ⊥
-  no_pair_enabled no_pairs a b enabled =
-      let found = delivery_of-two (came past) a b enabled.delivery enabled.came_in in
-      let follows = subst (MayFollow types (deliveries past)) found.4 enabled.may_follow in
-      no_pairs found.0.type_no follows.2.first
-
   -- the events that were delivered are no more than those that came
   pub length-delivered : length (delivered past) ≤ length (came past)
   length-delivered = length-numbered (delivered past) delivered_numbered (came past) (delivered_came types past legal)
@@ -75,15 +67,6 @@ module _ (types : TypeTable) (past : List Entry) (legal : IsLegalPast types past
       let all = length-numbered (e ∷ delivered past) (next, delivered_numbered) (came past)
       (λ x inside. elim (Contains-cons e (delivered past) x inside) [ inl is ↦ subst (Contains (came past)) is there | inr gone ↦ delivered_came types past legal x gone ]) in
       omega (arith, all)
-
-  -- nothing is enabled on a trace whose next event didn't come
-  pub none_enabled : HasNoPairs types → (id : EventId) → id.number ≡ count_on id.trace (delivered past) + 1 → ((e : Event) → Contains (came past) e → e.id ≡ id → IsReady types (delivered past) e → ⊥) → (block : Block) → IsEnabled types past block → HasTrace block id.trace → ⊥
-  none_enabled no_pairs id number not_ready (One a) enabled on =
-      let e = ready_from_enabled a enabled in
-      let trace : e.0.id.trace ≡ id.trace = ap (λ (i : EventId). i.trace) e.2 ∙ on in
-      let next : e.0.id.number ≡ count_on id.trace (delivered past) + 1 = e.3 ∙ ap (λ t. count_on t (delivered past) + 1) trace in
-      not_ready e.0 e.1 (same_id e.0.id id trace (next ∙ sym number)) e.4
-  none_enabled no_pairs id number not_ready (Two a b) enabled on = no_pair_enabled no_pairs a b enabled
 
   -- an event that fits the event that it names waits for that one alone
   pub cause_is_named : (e cause : Event) (mate : EventId) → e.mate ≡ Some mate → Contains (came past) cause → cause.id ≡ mate → (x : Event) → Contains (delivered past) x → Fits types e x → x ≡ cause

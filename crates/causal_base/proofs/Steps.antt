@@ -1,20 +1,21 @@
-use Rattle.std.proofs.Common.{◌≡◌, ◌<◌, ◌≤◌, ◌*◌, inl, inr, length, List, [], ◌∷◌, ◌++◌, reverse, sym, ◌∙◌, ap, subst, arith, Some, length-append}
-use Rattle.std.specs.Prelude.{option_to_list}
+use Rattle.std.proofs.Common.{◌≡◌, ◌<◌, ◌≤◌, ◌*◌, ℕ, inl, inr, length, List, [], ◌∷◌, ◌++◌, reverse, sym, ◌∙◌, ap, subst, arith, Some, length-append}
+use Rattle.std.specs.Prelude.{option_to_list, option_and_then}
 use Rattle.std.specs.Option.{option_map}
-use Rattle.causal_base.specs.declared.block.Block.TheVariants.{One}
+use Rattle.causal_base.specs.declared.block.Block.TheVariants.{One, Two}
 use Rattle.causal_base.specs.declared.entry.Entry.{Entry}
-use Rattle.causal_base.specs.declared.entry.Entry.TheVariants.{Came, Gone, Ended}
+use Rattle.causal_base.specs.declared.entry.Entry.TheVariants.{Came, Gone, Pair, Ended}
 use Rattle.causal_base.specs.declared.event.Event.{Event}
 use Rattle.causal_base.specs.declared.event_id.EventId.{EventId}
 use Rattle.causal_base.specs.Types.{TypeTable}
 use Rattle.causal_base.specs.Event.{IsFit}
-use Rattle.causal_base.specs.History.{alone, all_events, count_on}
+use Rattle.causal_base.specs.History.{alone, together, all_events, count_on}
 use Rattle.causal_base.specs.Past.{came, event_of, HasEvent, deliveries, delivered, HasEnded, IsNext, IsLegalPast}
 use Rattle.causal_base.specs.Journal.{IsSettled}
 use Rattle.causal_base.specs.PlainList.{IsOpenJournal}
 use Rattle.causal_base.proofs.Members.{Contains-cons}
-use Rattle.causal_base.proofs.Pasts.{came_fit, delivery_of-one}
+use Rattle.causal_base.proofs.Pasts.{came_fit, delivery_of-one, delivery_of-two}
 use Rattle.causal_base.proofs.Ready.{ready_from_enabled, length-delivered, length-delivered-lt, count-le-came}
+use Rattle.causal_base.proofs.Partners.{AreNextPartners, partners_from_enabled}
 use Rattle.causal_base.proofs.Journals.{reverse-push}
 
 module _ (types : TypeTable) (journal : List Entry) (kept : IsOpenJournal types journal) where
@@ -54,12 +55,64 @@ module _ (types : TypeTable) (journal : List Entry) (kept : IsOpenJournal types 
         let past : reverse (journal ++ Gone id ∷ []) ≡ Gone id ∷ reverse journal = reverse-push journal (Gone id) in
         record {
           table = kept.table;
-          no_pairs = kept.no_pairs;
           legal = subst (IsLegalPast types) (sym past) (next, kept.legal);
           open_yet = λ ended. elim (Contains-cons (Gone id) (reverse journal) (Ended 0) (subst (λ p. HasEnded p 0) past ended)) [ inl is ↦ cc | inr before ↦ kept.open_yet before ];
           balance =
               let size = length-append journal (Gone id ∷ []) in
               let gone = ap length delivered-gone in
+              let same = ap (λ p. length (came p)) past in
+              omega (arith, size, gone, same, kept.balance);
+          few = let same = ap (λ p. length (came p)) past in omega (arith, same, kept.few);
+        }
+
+  module _ (a b : EventId) (next : IsNext types (reverse journal) (Two a b)) where
+    next_partners : (x y : Event) × (x.id ≡ a) × (y.id ≡ b) × AreNextPartners types (reverse journal) x y
+    next_partners = partners_from_enabled types (reverse journal) kept.legal a b next.enabled
+
+    -- the partners that are next
+    pub next_pair : (x y : Event) × (event_of (came (reverse journal)) a ≡ Some x) × (event_of (came (reverse journal)) b ≡ Some y)
+    next_pair = let found = delivery_of-two (came (reverse journal)) a b next.enabled.delivery next.enabled.came_in in (found.0, found.1, found.2, found.3)
+
+    pub pair_lower : a.trace < b.trace
+    pair_lower =
+        let p = next_partners in
+        let first = ap (λ (i : EventId). i.trace) p.2 in
+        let second = ap (λ (i : EventId). i.trace) p.3 in
+        omega (arith, first, second, p.4.lower)
+
+    pub pair_trace : b.trace < 256
+    pair_trace =
+        let p = next_partners in
+        let range = (came_fit types (reverse journal) kept.legal p.1 p.4.second_came).id in
+        let below = subst (λ (i : EventId). i.trace < types.traces) p.3 range.trace in
+        omega (arith, below, kept.table.most_traces)
+
+    pub pair_count : (trace : ℕ) → count_on trace (delivered (reverse journal)) ≤ 10_000
+    pair_count trace = let most = count-le-came types (reverse journal) kept.legal trace in omega (arith, most, kept.few)
+
+    pub pair_room : length journal < 2 * length (came (reverse journal))
+    pair_room =
+        let p = next_partners in
+        let fewer = length-delivered-lt types (reverse journal) kept.legal p.0 p.4.first_came p.4.first_next in
+        omega (arith, fewer, kept.balance)
+
+    delivered-pair : delivered (reverse (journal ++ Pair a b ∷ [])) ≡ next_pair.1 ∷ next_pair.0 ∷ delivered (reverse journal)
+    delivered-pair =
+        ap delivered (reverse-push journal (Pair a b))
+        ∙ (ap (λ o. all_events (option_to_list (option_and_then (λ v. option_map (together v) (event_of (came (reverse journal)) b)) o) ++ deliveries (reverse journal))) next_pair.2
+        ∙ ap (λ o. all_events (option_to_list (option_map (together next_pair.0) o) ++ deliveries (reverse journal))) next_pair.3)
+
+    -- the journal after the partners were delivered
+    pub kept_pair : IsOpenJournal types (journal ++ Pair a b ∷ [])
+    kept_pair =
+        let past : reverse (journal ++ Pair a b ∷ []) ≡ Pair a b ∷ reverse journal = reverse-push journal (Pair a b) in
+        record {
+          table = kept.table;
+          legal = subst (IsLegalPast types) (sym past) (next, kept.legal);
+          open_yet = λ ended. elim (Contains-cons (Pair a b) (reverse journal) (Ended 0) (subst (λ p. HasEnded p 0) past ended)) [ inl is ↦ cc | inr before ↦ kept.open_yet before ];
+          balance =
+              let size = length-append journal (Pair a b ∷ []) in
+              let gone = ap length delivered-pair in
               let same = ap (λ p. length (came p)) past in
               omega (arith, size, gone, same, kept.balance);
           few = let same = ap (λ p. length (came p)) past in omega (arith, same, kept.few);
@@ -71,7 +124,6 @@ module _ (types : TypeTable) (journal : List Entry) (kept : IsOpenJournal types 
       let past : reverse (journal ++ Came 0 e ∷ []) ≡ Came 0 e ∷ reverse journal = reverse-push journal (Came 0 e) in
       record {
         table = kept.table;
-        no_pairs = kept.no_pairs;
         legal = subst (IsLegalPast types) (sym past) (record { settled = settled; fit = fit; new = new; open_yet = kept.open_yet }, kept.legal);
         open_yet = λ ended. elim (Contains-cons (Came 0 e) (reverse journal) (Ended 0) (subst (λ p. HasEnded p 0) past ended)) [ inl is ↦ cc | inr before ↦ kept.open_yet before ];
         balance =

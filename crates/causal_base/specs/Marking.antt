@@ -21,12 +21,13 @@ MarksOne new before after = (id : EventId) → (after id ≡ true) ↔ ((before 
 abbrev pub IsPredecessor : EventId → Event → Type 0
 IsPredecessor id e = (id.trace ≡ e.id.trace) × (id.number + 1 ≡ e.id.number)
 
--- The event before it on its trace and the event that it names are marked besides.
-pub record MarksCauses (e : Event) (before after : EventId → Bool) : Type 0 where
+-- Of each of the events, the event before it on its trace and the event that it names are marked besides.
+pub record MarksCauses (events : List Event) (before after : EventId → Bool) : Type 0 where
   pub kept : (id : EventId) → before id ≡ true → after id ≡ true
-  pub predecessor : (id : EventId) → IsPredecessor id e → after id ≡ true
-  pub named : (id : EventId) → e.mate ≡ Some id → after id ≡ true
-  pub no_other : (id : EventId) → after id ≡ true → (before id ≡ true) ⊎ (IsPredecessor id e ⊎ (e.mate ≡ Some id))
+  pub predecessor : (e : Event) → Contains events e → (id : EventId) → IsPredecessor id e → after id ≡ true
+  pub named : (e : Event) → Contains events e → (id : EventId) → e.mate ≡ Some id → after id ≡ true
+  pub no_other : (id : EventId) → after id ≡ true →
+      (before id ≡ true) ⊎ ((e : Event) × Contains events e × (IsPredecessor id e ⊎ (e.mate ≡ Some id)))
 
 -- going back over the entry at this place
 abbrev pub GoesBack : TypeTable → List Entry → ℕ → Event → (EventId → Bool) → (EventId → Bool) → Type 0

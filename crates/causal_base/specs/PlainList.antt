@@ -1,7 +1,6 @@
-use Rattle.std.specs.Prelude.{◌≢◌, ℕ, ◌+◌, ◌≤◌, List, length, reverse, Some}
+use Rattle.std.specs.Prelude.{◌+◌, ◌≤◌, List, length, reverse}
 use Rattle.causal_base.specs.declared.entry.Entry.{Entry}
-use Rattle.causal_base.specs.declared.kind.Kind.TheVariants.{Sync}
-use Rattle.causal_base.specs.Types.{TypeTable, kind_of}
+use Rattle.causal_base.specs.Types.{TypeTable}
 use Rattle.causal_base.specs.TypeTables.{IsTypeTable}
 use Rattle.causal_base.specs.Past.{came, delivered, HasEnded}
 use Rattle.causal_base.specs.Journal.{IsLegal}
@@ -11,15 +10,10 @@ pub record TypedJournal : Type 0 where
   pub types : TypeTable
   pub journal : List Entry
 
--- no type has events that pair
-abbrev pub HasNoPairs : TypeTable → Type 0
-HasNoPairs types = (type_no : ℕ) → kind_of types type_no ≢ Some Sync
-
 -- What holds of a plain list's journal at each moment: it is legal, its one collector hasn't ended, and each entry is
--- of one event that came or was delivered.
+-- of an event that came, or of one or two that were delivered.
 pub record IsOpenJournal (types : TypeTable) (journal : List Entry) : Type 0 where
   pub table : IsTypeTable types
-  pub no_pairs : HasNoPairs types
   pub legal : IsLegal types journal
   pub open_yet : HasEnded (reverse journal) 0 → ⊥
   pub balance : length journal ≤ length (came (reverse journal)) + length (delivered (reverse journal))

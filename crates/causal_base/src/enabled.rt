@@ -1,37 +1,37 @@
 ghost use Rattle.std.specs.Prelude.{◌≡◌, ℕ, ◌<◌, ◌↔◌, List, length, reverse, Contains, Some, IsTrue, IfSome, IfNone};
 ghost use Rattle.causal_base.specs.declared.block.Block.{Block};
-ghost use Rattle.causal_base.specs.declared.block.Block.TheVariants.{One};
 ghost use Rattle.causal_base.specs.declared.event.Event.{Event};
-ghost use Rattle.causal_base.specs.Event.{Fits};
-ghost use Rattle.causal_base.specs.History.{IsReady};
+ghost use Rattle.causal_base.specs.Event.{Fits, Pairs};
+ghost use Rattle.causal_base.specs.History.{IsNextOfTrace, IsReady};
 ghost use Rattle.causal_base.specs.Past.{came, delivered, IsEnabled, HasTrace, IsNext, HasNoNext};
 ghost use Rattle.causal_base.specs.PlainList.{IsOpenJournal};
 
+use crate::block::Block;
 use crate::event::Event;
 use crate::event_id::EventId;
 use crate::indexed_journal::IndexedJournal;
 use crate::kind::Kind;
 use crate::types::Types;
 
-/// Next of a journal whose types don't pair, or none where nothing is enabled.
-pub fn next(types: &Types, journal: &IndexedJournal) -> Option<EventId>
+/// Next, or none where nothing is enabled.
+pub fn next(types: &Types, journal: &IndexedJournal) -> Option<Block>
     requires { IsOpenJournal types.now journal.now }
-    ensures some { IfSome result (λ id. IsNext types.now (reverse journal.now) (One id)) }
+    ensures some { IfSome result (λ block. IsNext types.now (reverse journal.now) block) }
     ensures none { IfNone result (HasNoNext types.now (reverse journal.now)) }
 {
     for trace in 0..types.traces() {
-        if let Some(id) = enabled_on(types, journal, trace) {
-            return Some(id);
+        if let Some(block) = enabled_on(types, journal, trace) {
+            return Some(block);
         }
     }
     None
 }
 
-/// The enabled event of a trace, if there is one.
-fn enabled_on(types: &Types, journal: &IndexedJournal, trace: u32) -> Option<EventId>
+/// The enabled block that has an event of a trace, if there is one.
+fn enabled_on(types: &Types, journal: &IndexedJournal, trace: u32) -> Option<Block>
     requires kept { IsOpenJournal types.now journal.now }
     requires trace { trace < types.now.traces }
-    ensures some { IfSome result (λ id. (id.trace ≡ trace) × IsEnabled types.now (reverse journal.now) (One id)) }
+    ensures some { IfSome result (λ block. HasTrace block trace × IsEnabled types.now (reverse journal.now) block) }
     ensures none { IfNone result ((block : Block) → IsEnabled types.now (reverse journal.now) block → HasTrace block trace → ⊥) }
 {
     let id = EventId {
@@ -39,14 +39,49 @@ fn enabled_on(types: &Types, journal: &IndexedJournal, trace: u32) -> Option<Eve
         number: journal.delivered_on(trace) + 1,
     };
     match journal.event(id) {
-        Some(event) => {
-            if is_ready(types, journal, event) {
-                Some(id)
-            } else {
-                None
-            }
-        }
+        Some(event) => enabled_with(types, journal, event),
         None => None,
+    }
+}
+
+/// The enabled block that has this event, which came and is the next of its trace, if there is one.
+fn enabled_with(types: &Types, journal: &IndexedJournal, event: &Event) -> Option<Block>
+    requires kept { IsOpenJournal types.now journal.now }
+    requires came { Contains (came (reverse journal.now)) event.now }
+    requires next { IsNextOfTrace (delivered (reverse journal.now)) event.now }
+    ensures some { IfSome result (λ block. HasTrace block event.now.id.trace × IsEnabled types.now (reverse journal.now) block) }
+    ensures none { IfNone result ((block : Block) → IsEnabled types.now (reverse journal.now) block → HasTrace block event.now.id.trace → ⊥) }
+{
+    if let Some(partner) = next_partner(types, journal, event) {
+        if event.id.trace < partner.trace {
+            return Some(Block::Two(event.id, partner));
+        }
+        return Some(Block::Two(partner, event.id));
+    }
+    if is_ready(types, journal, event) {
+        Some(Block::One(event.id))
+    } else {
+        None
+    }
+}
+
+/// The id of the event with which an event pairs, where that one came and is the next of its trace.
+fn next_partner(types: &Types, journal: &IndexedJournal, event: &Event) -> Option<EventId>
+    requires kept { IsOpenJournal types.now journal.now }
+    requires came { Contains (came (reverse journal.now)) event.now }
+    ensures some { IfSome result (λ id. (p : Event) × (p.id ≡ id) × Contains (came (reverse journal.now)) p × Pairs types.now event.now p × IsNextOfTrace (delivered (reverse journal.now)) p) }
+    ensures none { IfNone result ((p : Event) → Contains (came (reverse journal.now)) p → Pairs types.now event.now p → IsNextOfTrace (delivered (reverse journal.now)) p → ⊥) }
+{
+    let Some(mate) = event.mate else {
+        return None;
+    };
+    let Some(partner) = journal.event(mate) else {
+        return None;
+    };
+    if pairs(types, event, partner) && mate.number == journal.delivered_on(mate.trace) + 1 {
+        Some(mate)
+    } else {
+        None
     }
 }
 
@@ -95,4 +130,19 @@ fn fits(types: &Types, later: &Event, earlier: &Event) -> bool
             Kind::Watch => true,
             _ => false,
         }
+}
+
+/// Whether two events are partners: they are sync events of two traces that name each other, of types that are mates.
+pub fn pairs(types: &Types, a: &Event, b: &Event) -> bool
+    requires first { a.now.type_no < length types.now.rows }
+    requires second { b.now.type_no < length types.now.rows }
+    ensures { IsTrue result ↔ Pairs types.now a.now b.now }
+{
+    a.id.trace != b.id.trace
+        && a.mate == Some(b.id)
+        && b.mate == Some(a.id)
+        && types.kind(a.type_no) == Kind::Sync
+        && types.kind(b.type_no) == Kind::Sync
+        && types.mate(a.type_no) == Some(b.type_no)
+        && types.mate(b.type_no) == Some(a.type_no)
 }

@@ -1,5 +1,5 @@
 ghost use Rattle.std.specs.Prelude.{◌≡◌, ◌≢◌, ◌^◌, ℕ, slice_get, slice_index, ◌+◌, ◌*◌, ◌<◌, ◌≤◌, [], ◌∷◌, ◌++◌, List, length, reverse, Contains, Some, IfSome, IfNone, OnOk, OnErr, vec_len, vec_capacity};
-ghost use Rattle.causal_base.specs.declared.entry.Entry.TheVariants.{Came, Gone};
+ghost use Rattle.causal_base.specs.declared.entry.Entry.TheVariants.{Came, Gone, Pair};
 ghost use Rattle.causal_base.specs.declared.event.Event.{Event};
 ghost use Rattle.causal_base.specs.History.{count_on};
 ghost use Rattle.causal_base.specs.Past.{came, delivered, event_of, HasEvent};
@@ -110,6 +110,22 @@ impl IndexedJournal {
     {
         self.entries.push_reserved(Entry::Gone(id));
         self.counts[id.trace as usize] += 1;
+    }
+
+    /// Adds that two partners were delivered together, the lower trace first. It takes no memory.
+    pub fn push_pair(&mut self, first: EventId, second: EventId)
+        requires first { (x : Event) × (event_of (came (reverse self.old)) first ≡ Some x) }
+        requires second { (y : Event) × (event_of (came (reverse self.old)) second ≡ Some y) }
+        requires first_trace { first.trace < second.trace }
+        requires second_trace { second.trace < 256 }
+        requires first_few { count_on first.trace (delivered (reverse self.old)) < 2 ^ 31 }
+        requires second_few { count_on second.trace (delivered (reverse self.old)) < 2 ^ 31 }
+        requires room { length self.old < 2 * length (came (reverse self.old)) }
+        ensures { self.new ≡ self.old ++ Pair first second ∷ [] }
+    {
+        self.entries.push_reserved(Entry::Pair(first, second));
+        self.counts[first.trace as usize] += 1;
+        self.counts[second.trace as usize] += 1;
     }
 }
 

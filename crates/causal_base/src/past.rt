@@ -1,8 +1,8 @@
-ghost use Rattle.std.specs.Prelude.{◌≡◌, ◌+◌, ◌<◌, length, reverse, Contains, IfSome, IfNone, IfOk, OnOk};
+ghost use Rattle.std.specs.Prelude.{◌≡◌, [], ◌∷◌, ◌+◌, ◌<◌, length, reverse, Contains, IfSome, IfNone, IfOk, OnOk};
 ghost use Rattle.std.specs.BTreeSet.{contains};
 ghost use Rattle.causal_base.specs.declared.event.Event.{Event};
 ghost use Rattle.causal_base.specs.Types.{TypeTable};
-ghost use Rattle.causal_base.specs.Past.{delivered};
+ghost use Rattle.causal_base.specs.Past.{came, delivered};
 ghost use Rattle.causal_base.specs.Index.{id_cmp};
 ghost use Rattle.causal_base.specs.Marking.{HasPast, GoesBack, MarksCauses, MarksOne};
 ghost use Rattle.causal_base.specs.PlainList.{IsOpenJournal};
@@ -34,7 +34,7 @@ pub fn past_of(
     Ok(marked)
 }
 
-/// Goes back over one entry: where it delivered a marked event, the causes of that are marked.
+/// Goes back over one entry: where it delivered a marked event, the causes of what it delivered are marked.
 fn go_back(
     journal: &IndexedJournal,
     place: usize,
@@ -44,19 +44,41 @@ fn go_back(
     ensures { OnOk result ((types : TypeTable) (e : Event) → IsOpenJournal types journal.now →
         GoesBack types journal.now place e (contains id_cmp marked.old) (contains id_cmp marked.new)) }
 {
-    if let Entry::Gone(gone) = &journal.entries()[place] {
-        if marked.contains(gone) {
-            if let Some(event) = journal.event(*gone) {
-                mark_causes(event, marked)?;
+    match &journal.entries()[place] {
+        Entry::Gone(gone) => {
+            if marked.contains(gone) {
+                mark_causes_of(journal, *gone, marked)?;
             }
         }
+        Entry::Pair(first, second) => {
+            if marked.contains(first) || marked.contains(second) {
+                mark_causes_of(journal, *first, marked)?;
+                mark_causes_of(journal, *second, marked)?;
+            }
+        }
+        _ => {}
     }
     Ok(())
 }
 
+/// Marks the causes of the event with this id.
+fn mark_causes_of(
+    journal: &IndexedJournal,
+    id: EventId,
+    marked: &mut BTreeSet<EventId>,
+) -> Result<(), AllocError>
+    ensures { OnOk result ((types : TypeTable) (e : Event) → IsOpenJournal types journal.now → Contains (came (reverse journal.now)) e → e.id ≡ id →
+        MarksCauses (e ∷ []) (contains id_cmp marked.old) (contains id_cmp marked.new)) }
+{
+    match journal.event(id) {
+        Some(event) => mark_causes(event, marked),
+        None => Ok(()),
+    }
+}
+
 /// Marks the event before this one on its trace, and the event that it names.
 fn mark_causes(event: &Event, marked: &mut BTreeSet<EventId>) -> Result<(), AllocError>
-    ensures { OnOk result (MarksCauses event.now (contains id_cmp marked.old) (contains id_cmp marked.new)) }
+    ensures { OnOk result (MarksCauses (event.now ∷ []) (contains id_cmp marked.old) (contains id_cmp marked.new)) }
 {
     mark(predecessor_of(event.id), marked)?;
     mark(event.mate, marked)

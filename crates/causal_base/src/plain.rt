@@ -5,10 +5,11 @@ ghost use Rattle.causal_base.specs.Past.{came, delivered, HasEvent};
 ghost use Rattle.causal_base.specs.Journal.{came_by, delivered_by};
 ghost use Rattle.causal_base.specs.InTurn.{SettlesTo};
 ghost use Rattle.causal_base.specs.Asked.{IsBeforeAnswer};
-ghost use Rattle.causal_base.specs.PlainList.{HasNoPairs, IsOpenJournal};
+ghost use Rattle.causal_base.specs.PlainList.{IsOpenJournal};
 
 use crate::answer::Answer;
-use crate::enabled::next;
+use crate::block::Block;
+use crate::enabled::{next, pairs};
 use crate::event::Event;
 use crate::event_id::EventId;
 use crate::indexed_journal::IndexedJournal;
@@ -43,9 +44,8 @@ impl Model for Plain {
 }
 
 impl Plain {
-    /// A list without events, for types none of which pairs.
+    /// A list without events.
     pub fn new(alloc: Global, types: Types) -> Plain
-        requires { HasNoPairs types }
         ensures { result ≡ record { types = types; journal = [] } }
     {
         // Reading the number of traces shows that the types are a table.
@@ -110,13 +110,13 @@ impl Plain {
     pub fn before(&self, alloc: Global, a: EventId, b: EventId) -> Result<Answer<bool>, AllocError>
         ensures { IfOk result (IsBeforeAnswer self.now.types (delivered_by self.now.journal) a b) }
     {
-        let Some(_first) = self.event(a) else {
+        let Some(first) = self.event(a) else {
             return Ok(Answer::NotYet(a));
         };
-        let Some(_second) = self.event(b) else {
+        let Some(second) = self.event(b) else {
             return Ok(Answer::NotYet(b));
         };
-        if a == b {
+        if a == b || pairs(&self.types, first, second) {
             return Ok(Answer::Known(false));
         }
         let past = past_of(alloc, &self.journal, b)?;
@@ -141,7 +141,10 @@ fn settle(types: &Types, journal: &mut IndexedJournal)
     ensures settles { SettlesTo types.now journal.old journal.new }
     ensures kept { IsOpenJournal types.now journal.new }
 {
-    while let Some(id) = next(types, journal) {
-        journal.push_gone(id);
+    while let Some(block) = next(types, journal) {
+        match block {
+            Block::One(id) => journal.push_gone(id),
+            Block::Two(first, second) => journal.push_pair(first, second),
+        }
     }
 }

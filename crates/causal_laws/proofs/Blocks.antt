@@ -1,81 +1,33 @@
-use Rattle.std.proofs.Common.{◌≡◌, ◌<◌, ◌+◌, ℕ, ◌⊎◌, inl, inr, List, sym, ◌∙◌, ap, subst, arith}
-use Rattle.std.specs.Prelude.{Contains}
+use Rattle.std.proofs.Common.{◌≡◌, ℕ, ◌⊎◌, inl, inr, List, sym, ◌∙◌, ap, subst, arith}
 use Rattle.causal_base.specs.declared.block.Block.{Block}
 use Rattle.causal_base.specs.declared.block.Block.TheVariants.{One, Two}
 use Rattle.causal_base.specs.declared.entry.Entry.{Entry}
 use Rattle.causal_base.specs.declared.event.Event.{Event}
 use Rattle.causal_base.specs.declared.event_id.EventId.{EventId}
-use Rattle.causal_base.specs.declared.kind.Kind.TheVariants.{Unary, Send, Sync}
+use Rattle.causal_base.specs.declared.kind.Kind.TheVariants.{Sync}
 use Rattle.causal_base.specs.Types.{TypeTable}
-use Rattle.causal_base.specs.Event.{IsOfKind, Names, Pairs}
-use Rattle.causal_base.specs.History.{count_on, IsNextOfTrace, IsReady, MayFollow}
-use Rattle.causal_base.specs.Past.{came, deliveries, delivered, IsEnabled, HasTrace, IsNext, IsLegalPast}
-use Rattle.causal_base.proofs.Ids.{same_id, event_of-member}
-use Rattle.causal_base.proofs.Histories.{same_kind, same_name, fits_no}
-use Rattle.causal_base.proofs.Pasts.{same_came, delivery_of-two}
+use Rattle.causal_base.specs.Event.{IsOfKind, Names}
+use Rattle.causal_base.specs.Past.{delivered, IsEnabled, HasTrace, IsNext, IsLegalPast}
+use Rattle.causal_base.proofs.Histories.{same_name}
 use Rattle.causal_base.proofs.Ready.{ready_from_enabled}
-
--- an event that waits for no other trace is no half of a pair
-pub ready_no_sync : (types : TypeTable) (events : List Event) (e : Event) → IsReady types events e → IsOfKind types e Sync → ⊥
-ready_no_sync types events e ready sync = elim ready [
-  | inl unary ↦ let same = same_kind types e Unary Sync unary sync in cc
-  | inr rest ↦ elim rest [
-    | inl send ↦ let same = same_kind types e Send Sync send sync in cc
-    | inr waits ↦ fits_no types e waits.0 Sync waits.2 sync (λ p. cc) (λ p. cc)
-  ]
-]
-
--- two partners that came, each the next of its trace, the lower trace first
-record AreNextPartners (types : TypeTable) (past : List Entry) (x y : Event) : Type 0 where
-  first_came : Contains (came past) x
-  second_came : Contains (came past) y
-  first_next : IsNextOfTrace (delivered past) x
-  second_next : IsNextOfTrace (delivered past) y
-  pairs : Pairs types x y
-  lower : x.id.trace < y.id.trace
+use Rattle.causal_base.proofs.Partners.{AreNextPartners, partners_from_enabled, next_of_trace_is_one}
+use Rattle.causal_base.proofs.Newest.{ready_no_sync}
 
 module _ (types : TypeTable) (past : List Entry) (legal : IsLegalPast types past) where
-  -- what is enabled as two are two such partners
-  partners_from_enabled : (a b : EventId) → IsEnabled types past (Two a b) → (x y : Event) × (x.id ≡ a) × (y.id ≡ b) × AreNextPartners types past x y
-  partners_from_enabled a b enabled =
-      let found = delivery_of-two (came past) a b enabled.delivery enabled.came_in in
-      let first = event_of-member (came past) a found.0 found.2 in
-      let second = event_of-member (came past) b found.1 found.3 in
-      let follows = subst (MayFollow types (deliveries past)) found.4 enabled.may_follow in (
-        found.0,
-        found.1,
-        first.1,
-        second.1,
-        record {
-          first_came = first.0;
-          second_came = second.0;
-          first_next = follows.0;
-          second_next = follows.1;
-          pairs = follows.2;
-          lower = follows.3;
-        },
-      )
-
-  -- on one trace one event is next
-  next_of_trace_is_one : (x y : Event) → Contains (came past) x → Contains (came past) y → IsNextOfTrace (delivered past) x → IsNextOfTrace (delivered past) y → x.id.trace ≡ y.id.trace → x ≡ y
-  next_of_trace_is_one x y came_x came_y next_x next_y trace =
-      same_came types past legal x y came_x came_y
-      (same_id x.id y.id trace (next_x ∙ (ap (λ t. count_on t (delivered past) + 1) trace ∙ sym next_y)))
-
   -- an event alone and a pair don't share a trace
   one_or_two : (a b d : EventId) → IsEnabled types past (One a) → IsEnabled types past (Two b d) → (trace : ℕ) → HasTrace (One a) trace → HasTrace (Two b d) trace → ⊥
   one_or_two a b d one two trace on_one on_two =
       let e = ready_from_enabled types past legal a one in
-      let p = partners_from_enabled b d two in
+      let p = partners_from_enabled types past legal b d two in
       let on_e : e.0.id.trace ≡ trace = ap (λ (i : EventId). i.trace) e.2 ∙ on_one in
       elim on_two [
         | inl first ↦
             let on_p : p.0.id.trace ≡ trace = ap (λ (i : EventId). i.trace) p.2 ∙ first in
-            let same = next_of_trace_is_one p.0 e.0 p.4.first_came e.1 p.4.first_next e.3 (on_p ∙ sym on_e) in
+            let same = next_of_trace_is_one types past legal p.0 e.0 p.4.first_came e.1 p.4.first_next e.3 (on_p ∙ sym on_e) in
             ready_no_sync types (delivered past) e.0 e.4 (subst (λ (x : Event). IsOfKind types x Sync) same p.4.pairs.first)
         | inr second ↦
             let on_p : p.1.id.trace ≡ trace = ap (λ (i : EventId). i.trace) p.3 ∙ second in
-            let same = next_of_trace_is_one p.1 e.0 p.4.second_came e.1 p.4.second_next e.3 (on_p ∙ sym on_e) in
+            let same = next_of_trace_is_one types past legal p.1 e.0 p.4.second_came e.1 p.4.second_next e.3 (on_p ∙ sym on_e) in
             ready_no_sync types (delivered past) e.0 e.4 (subst (λ (x : Event). IsOfKind types x Sync) same p.4.pairs.second)
       ]
 
@@ -92,18 +44,18 @@ module _ (types : TypeTable) (past : List Entry) (legal : IsLegalPast types past
   same_partners w x y z p q trace on_p on_q = elim on_p [
     | inl first_p ↦ elim on_q [
       | inl first_q ↦
-          let same = next_of_trace_is_one w y p.first_came q.first_came p.first_next q.first_next (first_p ∙ sym first_q) in
+          let same = next_of_trace_is_one types past legal w y p.first_came q.first_came p.first_next q.first_next (first_p ∙ sym first_q) in
           (ap (λ (v : Event). v.id) same, same_name w x z p.pairs.forth (subst (λ (v : Event). Names v z) (sym same) q.pairs.forth))
       | inr second_q ↦
-          let same = next_of_trace_is_one z w q.second_came p.first_came q.second_next p.first_next (second_q ∙ sym first_p) in
+          let same = next_of_trace_is_one types past legal z w q.second_came p.first_came q.second_next p.first_next (second_q ∙ sym first_p) in
           absurd (no_chain y z w x q p same)
     ]
     | inr second_p ↦ elim on_q [
       | inl first_q ↦
-          let same = next_of_trace_is_one x y p.second_came q.first_came p.second_next q.first_next (second_p ∙ sym first_q) in
+          let same = next_of_trace_is_one types past legal x y p.second_came q.first_came p.second_next q.first_next (second_p ∙ sym first_q) in
           absurd (no_chain w x y z p q same)
       | inr second_q ↦
-          let same = next_of_trace_is_one x z p.second_came q.second_came p.second_next q.second_next (second_p ∙ sym second_q) in
+          let same = next_of_trace_is_one types past legal x z p.second_came q.second_came p.second_next q.second_next (second_p ∙ sym second_q) in
           (same_name x w y p.pairs.back (subst (λ (v : Event). Names v y) (sym same) q.pairs.back), ap (λ (v : Event). v.id) same)
     ]
   ]
@@ -122,13 +74,13 @@ module _ (types : TypeTable) (past : List Entry) (legal : IsLegalPast types past
       let y = ready_from_enabled types past legal b enabled_b in
       let on_x : x.0.id.trace ≡ trace = ap (λ (i : EventId). i.trace) x.2 ∙ on_a in
       let on_y : y.0.id.trace ≡ trace = ap (λ (i : EventId). i.trace) y.2 ∙ on_b in
-      let same = next_of_trace_is_one x.0 y.0 x.1 y.1 x.3 y.3 (on_x ∙ sym on_y) in
+      let same = next_of_trace_is_one types past legal x.0 y.0 x.1 y.1 x.3 y.3 (on_x ∙ sym on_y) in
       ap (λ i. One i) (sym x.2 ∙ (ap (λ (e : Event). e.id) same ∙ y.2))
   same_block (One a) (Two b d) enabled_a enabled_b trace on_a on_b = absurd (one_or_two a b d enabled_a enabled_b trace on_a on_b)
   same_block (Two b d) (One a) enabled_b enabled_a trace on_b on_a = absurd (one_or_two a b d enabled_a enabled_b trace on_a on_b)
   same_block (Two a b) (Two d f) enabled_p enabled_q trace on_p on_q =
-      let p = partners_from_enabled a b enabled_p in
-      let q = partners_from_enabled d f enabled_q in
+      let p = partners_from_enabled types past legal a b enabled_p in
+      let q = partners_from_enabled types past legal d f enabled_q in
       let same = same_partners p.0 p.1 q.0 q.1 p.4 q.4 trace
       (trace_of_pair a b p.0 p.1 p.2 p.3 trace on_p) (trace_of_pair d f q.0 q.1 q.2 q.3 trace on_q) in
       let firsts : a ≡ d = sym p.2 ∙ (same.0 ∙ q.2) in

@@ -1,5 +1,5 @@
 use Rattle.std.proofs.Common.{◌≡◌, ◌≤◌, ◌⊎◌, inl, inr, List, [], ◌∷◌, ◌++◌, sym, ◌∙◌, ap, subst, arith, Some}
-use Rattle.std.specs.Prelude.{Contains, option_and_then}
+use Rattle.std.specs.Prelude.{Contains}
 use Rattle.std.specs.List.{AllByRecursion}
 use Rattle.std.specs.Option.{option_map}
 use Rattle.std.proofs.lemmas.Bool.{cases_lt}
@@ -18,9 +18,9 @@ use Rattle.causal_base.proofs.Members.{Contains-cons, Contains-here, Contains-th
 use Rattle.causal_base.proofs.Numbered.{IsNumbered, event_at}
 use Rattle.causal_base.proofs.Histories.{numbered, Contains-there_events}
 use Rattle.causal_base.proofs.Pasts.{same_came, event_of-came, delivery_of-one, delivery_of-two, delivery_inside, causal, delivered_came}
+use Rattle.causal_base.proofs.Partners.{pair_came}
 use Rattle.causal_base.proofs.Ready.{delivered_numbered, delivered_from_number, number_from_delivered}
-use Rattle.causal_laws.proofs.OwnHistories.{Contains-newest, Contains-split}
-use Rattle.causal_laws.proofs.Limits.{pairs_swapped, partner_is_new}
+use Rattle.causal_base.proofs.Newest.{Contains-newest, Contains-split, pairs_swapped, partner_is_new}
 
 -- the partner of a delivered event is delivered
 partner_delivered : (types : TypeTable) (ds : List Delivery) → IsCausal types ds → (x y : Event) → Contains (all_events ds) y → Pairs types x y → (v : Event) × Contains (all_events ds) v × (v.id ≡ x.id)
@@ -36,12 +36,6 @@ ready_grows types few more e grows ready = elim ready [
   | inl unary ↦ inl unary
   | inr rest ↦ elim rest [ inl send ↦ inr (inl send) | inr cause ↦ inr (inr (cause.0, grows cause.0 cause.1, cause.2)) ]
 ]
-
--- two events that came are found by their ids
-pair_came : (types : TypeTable) (past : List Entry) → IsLegalPast types past → (a b : Event) → Contains (came past) a → Contains (came past) b → delivery_of (came past) (Two a.id b.id) ≡ Some (together a b)
-pair_came types past legal a b a_came b_came =
-    ap (λ o. option_and_then (λ x. option_map (together x) (event_of (came past) b.id)) o) (event_of-came types past legal a a_came)
-    ∙ ap (λ o. option_map (together a) o) (event_of-came types past legal b b_came)
 
 -- none of the events is delivered yet
 abbrev AreWaiting : List Entry → List Event → Type 0

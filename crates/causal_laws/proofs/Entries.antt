@@ -14,7 +14,9 @@ use Rattle.causal_base.proofs.Ids.{same_id}
 use Rattle.causal_base.proofs.Numbered.{IsNumbered, number_within, event_at, same_event, count_on-same, count_on-other}
 use Rattle.causal_base.proofs.Histories.{numbered}
 use Rattle.causal_laws.proofs.Clocks.{count_by-cons, count_by_agree, and_true, count_by_skip, All-from_members, counts_is_one}
-use Rattle.causal_laws.proofs.Limits.{IsLimit, reach_limit, reaches_on, step_reaches, reaches_later, pairs_swapped}
+use Rattle.causal_base.proofs.Reaching.{reaches_on, step_reaches}
+use Rattle.causal_base.proofs.Newest.{pairs_swapped}
+use Rattle.causal_laws.proofs.Limits.{IsLimit, reach_limit, reaches_later}
 use Rattle.causal_laws.proofs.Levels.{walk_enters}
 
 -- the event lies on the trace, and has a number up to the limit
@@ -141,22 +143,22 @@ module _ (types : TypeTable) (clustering : Clustering) (history : List Delivery)
         let reaches = of_e.to x.0 x.1 x.2 (omega (arith, x.3)) in
         let not_member : is_member clustering history e.id x.0.id.trace ≡ false = subst (λ t. is_member clustering history e.id t ≡ false) (sym x.2) outside in
         let enters = walk_enters types clustering history causal reaches.through x.0 e inside reaches.walk not_member in
-        let y = enters.0 in
+        let y = enters.at in
         let member_clock = has_clock types history causal e inside y.id.trace in
         let on_member = limit_from_clock types history causal e inside y.id.trace member_clock.0 member_clock.1 in
-        let few = on_member.from y enters.2.among refl enters.2.before in
-        let found = last_above types clustering history causal y.id.trace (level_of clustering history e.id) member_clock.0 on_member.most y enters.2.among refl enters.2.above few in
+        let few = on_member.from y enters.among refl enters.before in
+        let found = last_above types clustering history causal y.id.trace (level_of clustering history e.id) member_clock.0 on_member.most y enters.among refl enters.above few in
         let r = found.0 in
         let entry : IsEntry types clustering history e r = record {
-          member = ap (is_member clustering history e.id) found.1.on ∙ enters.2.member;
+          member = ap (is_member clustering history e.id) found.1.on ∙ enters.member;
           number = member_clock.0;
           clock = subst (λ t. IsClock types (all_events history) e t member_clock.0) (sym found.1.on) member_clock.1;
           last = subst (λ t. IsLastAbove clustering history t (level_of clustering history e.id) member_clock.0 r) (sym found.1.on) found.1;
         } in
         let r_clock = has_clock types history causal r found.1.among trace in
         let of_r = limit_from_clock types history causal r found.1.among trace r_clock.0 r_clock.1 in
-        let later = reaches_later types (all_events history) (numbered types history causal) y r enters.2.among found.1.among (sym found.1.on) found.2 in
-        let least = of_r.from x.0 x.1 x.2 (reaches_on types (all_events history) x.0 y r enters.2.after later) in
+        let later = reaches_later types (all_events history) (numbered types history causal) y r enters.among found.1.among (sym found.1.on) found.2 in
+        let least = of_r.from x.0 x.1 x.2 (reaches_on types (all_events history) x.0 y r enters.after later) in
         let most = entry_below n clock r r_clock.0 entry r_clock.1 in
         let same : r_clock.0 ≡ n = omega (arith, least, most, x.3) in
         inr (r, entry, subst (λ m. IsClock types (all_events history) r trace m) same r_clock.1)

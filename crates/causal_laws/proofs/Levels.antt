@@ -13,11 +13,10 @@ use Rattle.causal_base.specs.History.{Delivery, alone, together, events_of, all_
 use Rattle.causal_base.specs.Clusters.{Clustering, communications, partition, partition_after, traces_joined, shared_level}
 use Rattle.causal_base.specs.Stamps.{history_of, joined_level, newest_level, level_of, is_member}
 use Rattle.causal_base.proofs.Histories.{same_name, fits_no}
-use Rattle.causal_base.proofs.Members.{Contains-cons, Contains-here, Contains-there, Contains-nil}
-use Rattle.causal_laws.proofs.Blocks.{ready_no_sync}
+use Rattle.causal_base.proofs.Members.{Contains-cons, Contains-nil}
+use Rattle.causal_base.proofs.Newest.{ready_no_sync}
 use Rattle.causal_laws.proofs.Partitions.{shared_grows, shares_itself, shared_swapped, shared_up_to, shared_on, shares_at_level}
-use Rattle.causal_base.proofs.Marks.{reaches_step}
-use Rattle.causal_laws.proofs.Limits.{step_reaches}
+use Rattle.causal_base.proofs.Reaching.{reaches_step, step_reaches}
 use Rattle.causal_laws.proofs.OwnHistories.{delivered_at, own_delivery, own_causal, history_within}
 
 -- a delivery joins these two traces, in one order or the other
@@ -105,44 +104,57 @@ module _ (types : TypeTable) (clustering : Clustering) (history : List Delivery)
       clash : is_member clustering history f.id x.id.trace ≡ true → ⊥
       clash is = let apart : true ≡ false = sym is ∙ outside in cc
 
-  -- an event enters the members of another: at a greater level, after the first and before the other
-  pub record Enters (a f : Event) (at : Event) : Type 0 where
-    pub among : Contains (all_events history) at
+  -- A walk from a to f enters the members of f: it has an event outside of them and, right after it, one of a member,
+  -- which has a greater level.
+  pub record Enters (a f : Event) (through : List Event) : Type 0 where
+    pub earlier : List Event
+    pub from : Event
+    pub at : Event
+    pub later : List Event
+    pub is_walk : a ∷ through ≡ earlier ++ from ∷ at ∷ later
+    pub outside : is_member clustering history f.id from.id.trace ≡ false
     pub member : is_member clustering history f.id at.id.trace ≡ true
     pub above : level_of clustering history f.id < level_of clustering history at.id
+    pub among : Contains (all_events history) at
     pub after : Reaches types (all_events history) a at
     pub before : Reaches types (all_events history) at f
 
   -- a walk from outside of the members of an event to it enters them at an event of a greater level
-  pub walk_enters : (through : List Event) (a f : Event) → Contains (all_events history) f → Walk types (all_events history) a through f → is_member clustering history f.id a.id.trace ≡ false → (at : Event) × Contains through at × Enters a f at
+  pub walk_enters : (through : List Event) (a f : Event) → Contains (all_events history) f → Walk types (all_events history) a through f → is_member clustering history f.id a.id.trace ≡ false → Enters a f through
   walk_enters [] a f inside walk outside =
       let own : is_member clustering history f.id f.id.trace ≡ true = shares_itself clustering (communications (history_of f.id history)) (level_of clustering history f.id) f.id.trace in
       let not_so : is_member clustering history f.id f.id.trace ≡ false = subst (λ (v : Event). is_member clustering history f.id v.id.trace ≡ false) walk outside in
       absurd (let apart : true ≡ false = sym own ∙ not_so in cc)
   walk_enters (y ∷ through) a f inside walk outside =
-      elim (is_member clustering history f.id y.id.trace) as (λ b. is_member clustering history f.id y.id.trace ≡ b → (at : Event) × Contains (y ∷ through) at × Enters a f at) [
+      elim (is_member clustering history f.id y.id.trace) as (λ b. is_member clustering history f.id y.id.trace ≡ b → Enters a f (y ∷ through)) [
         | true ↦ λ member.
-            let onward : Reaches types (all_events history) y f = record { among = walk.0.to; through = through; walk = walk.1 } in (
-              y,
-              Contains-here y through,
-              record {
-                among = walk.0.to;
-                member = member;
-                above = enters_above a y f inside walk.0 onward outside member;
-                after = step_reaches types (all_events history) a y walk.0;
-                before = onward;
-              },
-            )
+            let onward : Reaches types (all_events history) y f = record { among = walk.0.to; through = through; walk = walk.1 } in
+            record {
+              earlier = [];
+              from = a;
+              at = y;
+              later = through;
+              is_walk = refl;
+              outside = outside;
+              member = member;
+              above = enters_above a y f inside walk.0 onward outside member;
+              among = walk.0.to;
+              after = step_reaches types (all_events history) a y walk.0;
+              before = onward;
+            }
         | false ↦ λ still.
-            let rest = walk_enters through y f inside walk.1 still in (
-              rest.0,
-              Contains-there y through rest.0 rest.1,
-              record {
-                among = rest.2.among;
-                member = rest.2.member;
-                above = rest.2.above;
-                after = reaches_step types (all_events history) a y rest.0 walk.0 rest.2.after;
-                before = rest.2.before;
-              },
-            )
+            let rest = walk_enters through y f inside walk.1 still in
+            record {
+              earlier = a ∷ rest.earlier;
+              from = rest.from;
+              at = rest.at;
+              later = rest.later;
+              is_walk = ap (λ events. a ∷ events) rest.is_walk;
+              outside = rest.outside;
+              member = rest.member;
+              above = rest.above;
+              among = rest.among;
+              after = reaches_step types (all_events history) a y rest.at walk.0 rest.after;
+              before = rest.before;
+            }
       ] refl

@@ -2,6 +2,8 @@ pub mod Prefixes
 pub mod Earlier
 pub mod Clocks
 pub mod Blocks
+pub mod PairBlocks
+pub mod PairPasts
 pub mod Partitions
 pub mod OwnHistories
 pub mod Levels

@@ -1,38 +1,19 @@
-use Rattle.std.proofs.Common.{◌≡◌, ◌≤◌, ◌+◌, ◌-◌, ℕ, suc, zero, ◌⊎◌, inl, inr, List, [], ◌∷◌, ◌++◌, refl, sym, ◌∙◌, ap, subst, arith}
+use Rattle.std.proofs.Common.{◌≡◌, ◌≤◌, ◌+◌, ◌-◌, ℕ, suc, zero, ◌⊎◌, inl, inr, List, [], ◌∷◌, sym, ◌∙◌, ap, subst, arith}
 use Rattle.std.specs.Prelude.{Contains, ◌↔◌}
 use Rattle.std.proofs.lemmas.Bool.{cases_eq, cases_lt}
 use Rattle.causal_base.specs.declared.event.Event.{Event}
 use Rattle.causal_base.specs.declared.kind.Kind.TheVariants.{Unary, Send, Sync}
 use Rattle.causal_base.specs.Types.{TypeTable}
-use Rattle.causal_base.specs.Event.{IsOfKind, Names, Fits, Pairs}
-use Rattle.causal_base.specs.Walks.{Succeeds, Step, Walk, Reaches}
+use Rattle.causal_base.specs.Event.{Fits, Pairs}
+use Rattle.causal_base.specs.Walks.{Succeeds, Step, Reaches}
 use Rattle.causal_base.specs.History.{Delivery, alone, together, events_of, all_events, count_on, IsNextOfTrace, IsReady, IsCausal}
 use Rattle.causal_base.proofs.Ids.{same_id}
 use Rattle.causal_base.proofs.Members.{Contains-cons, Contains-here, Contains-there, Contains-nil}
 use Rattle.causal_base.proofs.Numbered.{IsNumbered, number_within, event_at, same_event}
-use Rattle.causal_base.proofs.Histories.{same_name, fits_no, numbered, step_back, reaches_back, reaches_grows, Contains-there_events}
-use Rattle.causal_base.proofs.Marks.{reaches_step}
-use Rattle.causal_laws.proofs.Blocks.{ready_no_sync}
+use Rattle.causal_base.proofs.Histories.{same_name, fits_no, numbered, reaches_back, reaches_grows, Contains-there_events}
+use Rattle.causal_base.proofs.Reaching.{reaches_step, reaches_on, reaches_itself, step_reaches}
+use Rattle.causal_base.proofs.Newest.{Contains-newest, Contains-split, newest_is_next, ReachesSource, newest_reach, goes_by_source}
 use Rattle.causal_laws.proofs.Clocks.{count_on-added}
-use Rattle.causal_laws.proofs.OwnHistories.{Contains-newest, Contains-split, newest_is_next, newest_is_new}
-
--- a walk may be followed by another
-walk_on : (types : TypeTable) (events : List Event) (through onward : List Event) (x y z : Event) → Walk types events x through y → Walk types events y onward z → Walk types events x (through ++ onward) z
-walk_on types events [] onward x y z one other = subst (λ (v : Event). Walk types events v onward z) (sym one) other
-walk_on types events (w ∷ through) onward x y z one other = (one.0, walk_on types events through onward w y z one.1 other)
-
-pub reaches_on : (types : TypeTable) (events : List Event) (x y z : Event) → Reaches types events x y → Reaches types events y z → Reaches types events x z
-reaches_on types events x y z one other = record {
-  among = one.among;
-  through = one.through ++ other.through;
-  walk = walk_on types events one.through other.through x y z one.walk other.walk;
-}
-
-pub reaches_itself : (types : TypeTable) (events : List Event) (x : Event) → Contains events x → Reaches types events x x
-reaches_itself types events x inside = record { among = inside; through = []; walk = refl }
-
-pub step_reaches : (types : TypeTable) (events : List Event) (x y : Event) → Step types events x y → Reaches types events x y
-step_reaches types events x y step = reaches_step types events x y y step (reaches_itself types events y step.to)
 
 module _ (types : TypeTable) (events : List Event) (all_numbered : IsNumbered events) where
   reaches_after : (more : ℕ) (x y : Event) → Contains events x → Contains events y → x.id.trace ≡ y.id.trace → y.id.number ≡ more + x.id.number → Reaches types events x y
@@ -117,14 +98,6 @@ module _ (events : List Event) (all_numbered : IsNumbered events) (trace : ℕ) 
     )
   ]
 
--- one step before an event, on its own trace or as what it fits
-abbrev IsSource : TypeTable → Event → Event → Type 0
-IsSource types z w = Succeeds z w ⊎ Fits types w z
-
--- it reaches one of the events, which lies one step before this one
-abbrev ReachesSource : TypeTable → List Event → Event → Event → Type 0
-ReachesSource types events w x = (z : Event) × Contains events z × Reaches types events x z × IsSource types z w
-
 -- an event that fits none of the events, or one
 abbrev FitsOne : TypeTable → List Event → Event → Type 0
 FitsOne types events w = ((z : Event) → Fits types w z → ⊥) ⊎ ((cause : Event) × Contains events cause × Fits types w cause)
@@ -199,16 +172,6 @@ module _ (types : TypeTable) (ds : List Delivery) (causal : IsCausal types ds) (
       (before_one a new.0.0 (inl (λ z fits. fits_no types a z Sync fits new.0.2.first (λ p. cc) (λ p. cc))))
       (before_one b new.0.1 (inl (λ z fits. fits_no types b z Sync fits new.0.2.second (λ p. cc) (λ p. cc)))))
 
-pub pairs_swapped : (types : TypeTable) (a b : Event) → Pairs types a b → Pairs types b a
-pairs_swapped types a b pairs = record {
-  traces = λ same. pairs.traces (sym same);
-  forth = pairs.back;
-  back = pairs.forth;
-  first = pairs.second;
-  second = pairs.first;
-  mates = record { forth = pairs.mates.back; back = pairs.mates.forth };
-}
-
 -- a delivery has an event on this trace, or none
 on_newest : (d : Delivery) (trace : ℕ) → ((w : Event) × Contains (events_of d) w × (w.id.trace ≡ trace)) ⊎ ((w : Event) → Contains (events_of d) w → w.id.trace ≡ trace → ⊥)
 on_newest (alone e) trace = elim (cases_eq e.id.trace trace) [
@@ -227,85 +190,6 @@ on_newest (together a b) trace = elim (cases_eq a.id.trace trace) [
     ])
   ]
 ]
-
-module _ (types : TypeTable) (ds : List Delivery) where
-  -- the events of the newest delivery reach each other
-  newest_reach : (d : Delivery) → IsCausal types (d ∷ ds) → (x e : Event) → Contains (events_of d) x → Contains (events_of d) e → Reaches types (all_events (d ∷ ds)) x e
-  newest_reach (alone v) causal x e in_x in_e = elim (Contains-cons v [] x in_x) [
-    | inr none ↦ absurd (Contains-nil x none)
-    | inl is_x ↦ elim (Contains-cons v [] e in_e) [
-      | inr none ↦ absurd (Contains-nil e none)
-      | inl is_e ↦ subst (λ (u : Event). Reaches types (v ∷ all_events ds) x u) (sym is_x ∙ is_e) (reaches_itself types (v ∷ all_events ds) x (Contains-newest (alone v) ds x in_x))
-    ]
-  ]
-  newest_reach (together a b) causal x e in_x in_e = elim (Contains-cons b (a ∷ []) x in_x) [
-    | inl is_x ↦ elim (Contains-cons b (a ∷ []) e in_e) [
-      | inl is_e ↦ subst (λ (u : Event). Reaches types events x u) (sym is_x ∙ is_e) (reaches_itself types events x (Contains-newest (together a b) ds x in_x))
-      | inr rest ↦ elim (Contains-cons a [] e rest) [
-        | inl is_e ↦ subst (λ (u : Event). Reaches types events u e) is_x (subst (λ (u : Event). Reaches types events b u) is_e (step_reaches types events b a back))
-        | inr none ↦ absurd (Contains-nil e none)
-      ]
-    ]
-    | inr rest_x ↦ elim (Contains-cons a [] x rest_x) [
-      | inr none ↦ absurd (Contains-nil x none)
-      | inl is_x ↦ elim (Contains-cons b (a ∷ []) e in_e) [
-        | inl is_e ↦ subst (λ (u : Event). Reaches types events u e) is_x (subst (λ (u : Event). Reaches types events a u) is_e (step_reaches types events a b forth))
-        | inr rest ↦ elim (Contains-cons a [] e rest) [
-          | inl is_e ↦ subst (λ (u : Event). Reaches types events x u) (sym is_x ∙ is_e) (reaches_itself types events x (Contains-newest (together a b) ds x in_x))
-          | inr none ↦ absurd (Contains-nil e none)
-        ]
-      ]
-    ]
-  ]
-    where
-      events : List Event
-      events = all_events (together a b ∷ ds)
-
-      forth : Step types (all_events (together a b ∷ ds)) a b
-      forth = record { from = Contains-there b (a ∷ all_events ds) a (Contains-here a (all_events ds)); to = Contains-here b (a ∷ all_events ds); cause = inr (inr causal.0.2) }
-
-      back : Step types (all_events (together a b ∷ ds)) b a
-      back = record { from = Contains-here b (a ∷ all_events ds); to = Contains-there b (a ∷ all_events ds) a (Contains-here a (all_events ds)); cause = inr (inr (pairs_swapped types a b causal.0.2)) }
-
-  -- the partner of an event of the newest delivery is of it too
-  pub partner_is_new : (d : Delivery) → IsCausal types (d ∷ ds) → (x y : Event) → Contains (events_of d) y → Pairs types x y → (v : Event) × Contains (events_of d) v × (v.id ≡ x.id)
-  partner_is_new (alone e) causal x y inside pairs = elim (Contains-cons e [] y inside) [
-    | inl is ↦ absurd (ready_no_sync types (all_events ds) e causal.0.1 (subst (λ (v : Event). IsOfKind types v Sync) (sym is) pairs.second))
-    | inr none ↦ absurd (Contains-nil y none)
-  ]
-  partner_is_new (together a b) causal x y inside pairs = elim (Contains-cons b (a ∷ []) y inside) [
-    | inl is ↦ (a, Contains-there b (a ∷ []) a (Contains-here a []), same_name b a x causal.0.2.back (subst (λ (v : Event). Names v x) (sym is) pairs.back))
-    | inr rest ↦ elim (Contains-cons a [] y rest) [
-      | inl is ↦ (b, Contains-here b (a ∷ []), same_name a b x causal.0.2.forth (subst (λ (v : Event). Names v x) (sym is) pairs.back))
-      | inr none ↦ absurd (Contains-nil y none)
-    ]
-  ]
-
-  -- a walk from an older event to one of the newest delivery goes by a source of that delivery
-  goes_by_source : (d : Delivery) → IsCausal types (d ∷ ds) → (through : List Event) (x e : Event) → Contains (all_events ds) x → Contains (events_of d) e → Walk types (all_events (d ∷ ds)) x through e → (w : Event) × Contains (events_of d) w × ReachesSource types (all_events ds) w x
-  goes_by_source d causal [] x e old new walk = absurd (newest_is_new types d ds causal e x new old (ap (λ (v : Event). v.id) (sym walk)))
-  goes_by_source d causal (y ∷ through) x e old new walk = elim (Contains-split d ds y walk.0.to) [
-    | inr older ↦
-        let rest = goes_by_source d causal through y e older new walk.1 in
-        let step = step_back types d ds causal x y older walk.0 in
-        (rest.0, rest.1, (rest.2.0, rest.2.1, reaches_step types (all_events ds) x y rest.2.0 step rest.2.2, rest.2.3))
-    | inl newest ↦ (
-      y,
-      newest,
-      (
-        x,
-        old,
-        reaches_itself types (all_events ds) x old,
-        elim walk.0.cause [
-          | inl succeeds ↦ inl succeeds
-          | inr cause ↦ elim cause [
-            | inl fits ↦ inr fits
-            | inr pairs ↦ absurd (let v = partner_is_new d causal x y newest pairs in newest_is_new types d ds causal v.0 x v.1 old v.2)
-          ]
-        ],
-      ),
-    )
-  ]
 
 module _ (types : TypeTable) (d : Delivery) (ds : List Delivery) (causal : IsCausal types (d ∷ ds)) (trace : ℕ) where
   most_grows : (limit : ℕ) → limit ≤ count_on trace (all_events ds) → limit ≤ count_on trace (all_events (d ∷ ds))

@@ -1,47 +1,20 @@
-use Rattle.std.proofs.Common.{◌≡◌, ◌+◌, ◌⊎◌, inl, inr, List, [], ◌∷◌, ◌++◌, Bool, true, false, cond, refl, sym, ◌∙◌, ap, subst, arith}
+use Rattle.std.proofs.Common.{◌≡◌, inl, inr, List, [], ◌∷◌, ◌++◌, Bool, true, false, cond, refl, sym, ◌∙◌, ap, subst}
 use Rattle.std.specs.Prelude.{Contains}
 use Rattle.causal_base.specs.declared.event.Event.{Event}
 use Rattle.causal_base.specs.declared.event_id.EventId.{EventId}
 use Rattle.causal_base.specs.Types.{TypeTable}
-use Rattle.causal_base.specs.History.{Delivery, alone, together, events_of, all_events, count_on, IsNextOfTrace, IsCausal}
+use Rattle.causal_base.specs.History.{Delivery, alone, together, events_of, all_events, IsCausal}
 use Rattle.causal_base.specs.Past.{is_same_id}
 use Rattle.causal_base.specs.Stamps.{delivers, history_of}
 use Rattle.causal_base.proofs.Ids.{is_same_id-same, same_from_is_same_id}
 use Rattle.causal_base.proofs.Members.{Contains-cons, Contains-here, Contains-there, Contains-nil}
-use Rattle.causal_base.proofs.Numbered.{number_within, same_event}
+use Rattle.causal_base.proofs.Numbered.{same_event}
 use Rattle.causal_base.proofs.Histories.{numbered}
 use Rattle.causal_base.specs.Walks.{Reaches}
+use Rattle.causal_base.proofs.Newest.{Contains-newest, Contains-split, newest_is_new}
 use Rattle.causal_laws.proofs.Prefixes.{Contains-grows}
 use Rattle.causal_laws.proofs.Earlier.{older_are_causal, reaches_back_all}
 use Rattle.std.proofs.lemmas.Bool.{or_left, or_right, or_cases}
-
--- the events of the newest delivery are among all
-pub Contains-newest : (d : Delivery) (ds : List Delivery) (x : Event) → Contains (events_of d) x → Contains (all_events (d ∷ ds)) x
-Contains-newest (alone e) ds x inside = elim (Contains-cons e [] x inside) [
-  | inl is ↦ subst (λ (v : Event). Contains (e ∷ all_events ds) v) is (Contains-here e (all_events ds))
-  | inr none ↦ absurd (Contains-nil x none)
-]
-Contains-newest (together a b) ds x inside = elim (Contains-cons b (a ∷ []) x inside) [
-  | inl is ↦ subst (λ (v : Event). Contains (b ∷ a ∷ all_events ds) v) is (Contains-here b (a ∷ all_events ds))
-  | inr rest ↦ elim (Contains-cons a [] x rest) [
-    | inl is ↦ subst (λ (v : Event). Contains (b ∷ a ∷ all_events ds) v) is (Contains-there b (a ∷ all_events ds) a (Contains-here a (all_events ds)))
-    | inr none ↦ absurd (Contains-nil x none)
-  ]
-]
-
--- an event is of the newest delivery or older
-pub Contains-split : (d : Delivery) (ds : List Delivery) (x : Event) → Contains (all_events (d ∷ ds)) x → Contains (events_of d) x ⊎ Contains (all_events ds) x
-Contains-split (alone e) ds x inside = elim (Contains-cons e (all_events ds) x inside) [
-  | inl is ↦ inl (subst (λ (v : Event). Contains (e ∷ []) v) is (Contains-here e []))
-  | inr older ↦ inr older
-]
-Contains-split (together a b) ds x inside = elim (Contains-cons b (a ∷ all_events ds) x inside) [
-  | inl is ↦ inl (subst (λ (v : Event). Contains (b ∷ a ∷ []) v) is (Contains-here b (a ∷ [])))
-  | inr rest ↦ elim (Contains-cons a (all_events ds) x rest) [
-    | inl is ↦ inl (subst (λ (v : Event). Contains (b ∷ a ∷ []) v) is (Contains-there b (a ∷ []) a (Contains-here a [])))
-    | inr older ↦ inr older
-  ]
-]
 
 same_id_of : (x e : Event) → x ≡ e → is_same_id e.id x.id ≡ true
 same_id_of x e is = subst (λ (v : Event). is_same_id e.id v.id ≡ true) (sym is) (is_same_id-same e.id)
@@ -98,24 +71,6 @@ delivered_at (d ∷ ds) e inside =
             delivers_it = rest.delivers_it;
           }
     ] refl
-
--- each event of the newest delivery is the next of its trace
-pub newest_is_next : (types : TypeTable) (d : Delivery) (ds : List Delivery) → IsCausal types (d ∷ ds) → (x : Event) → Contains (events_of d) x → IsNextOfTrace (all_events ds) x
-newest_is_next types (alone e) ds causal x inside = elim (Contains-cons e [] x inside)
-    [ inl is ↦ subst (λ (v : Event). IsNextOfTrace (all_events ds) v) is causal.0.0 | inr none ↦ absurd (Contains-nil x none) ]
-newest_is_next types (together a b) ds causal x inside = elim (Contains-cons b (a ∷ []) x inside) [
-  | inl is ↦ subst (λ (v : Event). IsNextOfTrace (all_events ds) v) is causal.0.1
-  | inr rest ↦ elim (Contains-cons a [] x rest)
-      [ inl is ↦ subst (λ (v : Event). IsNextOfTrace (all_events ds) v) is causal.0.0 | inr none ↦ absurd (Contains-nil x none) ]
-]
-
--- no older event has the id of an event of the newest delivery
-pub newest_is_new : (types : TypeTable) (d : Delivery) (ds : List Delivery) → IsCausal types (d ∷ ds) → (x e : Event) → Contains (events_of d) x → Contains (all_events ds) e → x.id ≡ e.id → ⊥
-newest_is_new types d ds causal x e newest older same =
-    let next = newest_is_next types d ds causal x newest in
-    let next_too : e.id.number ≡ count_on e.id.trace (all_events ds) + 1 = subst (λ (i : EventId). i.number ≡ count_on i.trace (all_events ds) + 1) same next in
-    let most = (number_within (all_events ds) (numbered types ds causal.1) e older).1 in
-    omega (arith, next_too, most)
 
 -- newer deliveries leave the history of an older event
 pub history_of_older : (types : TypeTable) (newer older : List Delivery) → IsCausal types (newer ++ older) → (e : Event) → Contains (all_events older) e → history_of e.id (newer ++ older) ≡ history_of e.id older

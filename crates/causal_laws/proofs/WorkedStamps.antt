@@ -28,7 +28,7 @@ watch trace number watched = record { id = make_id trace number; type_no = 4; ma
 abbrev pub at_first : ℕ → List ℕ → Clustering
 at_first traces sizes = record { traces = traces; sizes = sizes; after = 1 }
 
-abbrev at_second : ℕ → List ℕ → Clustering
+abbrev pub at_second : ℕ → List ℕ → Clustering
 at_second traces sizes = record { traces = traces; sizes = sizes; after = 2 }
 
 -- three traces, each of which hears of the one before it; clusters of at most two
@@ -57,7 +57,7 @@ five_members : (members_of two_and_four five (make_id 2 2) ≡ 0 ∷ 1 ∷ 2 ∷
 five_members = (refl, refl, refl, refl, refl)
 
 -- Clusters of one trace merge with none, and an event that names one of its own trace has level 1.
-abbrev own : List Delivery
+abbrev pub own : List Delivery
 own = alone (receive 1 3 (make_id 1 2)) ∷ alone (send 1 2) ∷ alone (receive 1 1 (make_id 0 1)) ∷ alone (send 0 1) ∷ []
 
 own_levels : (level_of (at_first 3 (1 ∷ [])) own (make_id 1 1) ≡ 2) × (level_of (at_first 3 (1 ∷ [])) own (make_id 1 3) ≡ 1)
@@ -67,7 +67,7 @@ own_members : (members_of (at_first 3 (1 ∷ [])) own (make_id 1 1) ≡ 0 ∷ 1 
 own_members = (refl, refl)
 
 -- clusters that merge at the second communication between them
-abbrev twice : List Delivery
+abbrev pub twice : List Delivery
 twice = alone (unary 1 3) ∷ alone (receive 1 2 (make_id 0 1)) ∷ alone (receive 1 1 (make_id 0 1)) ∷ alone (send 0 1) ∷ []
 
 twice_levels : (level_of (at_second 3 (2 ∷ [])) twice (make_id 1 1) ≡ 2) × (level_of (at_second 3 (2 ∷ [])) twice (make_id 1 2) ≡ 1) × (level_of (at_second 3 (2 ∷ [])) twice (make_id 1 3) ≡ 1)

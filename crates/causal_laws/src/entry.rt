@@ -1,4 +1,4 @@
-ghost use Rattle.std.specs.Prelude.{◌≡◌, ◌<◌, ◌↔◌, ℕ, true, false, List, Contains};
+ghost use Rattle.std.specs.Prelude.{◌≡◌, ◌<◌, ◌↔◌, ◌∷◌, ◌++◌, ℕ, true, false, List, Contains};
 ghost use Rattle.causal_base.specs.declared.entry.Entry.{Entry};
 ghost use Rattle.causal_base.specs.declared.event.Event.{Event};
 ghost use Rattle.causal_base.specs.Types.{TypeTable};
@@ -8,14 +8,15 @@ ghost use Rattle.causal_base.specs.Clusters.{Clustering};
 ghost use Rattle.causal_base.specs.Journal.{IsLegal, delivered_by, deliveries_by};
 ghost use Rattle.causal_base.specs.Stamps.{level_of, is_member, IsGreatestOfEntries};
 
-/// A walk to an event from a trace that is none of its members goes through an event of a member that has a greater
-/// level.
+/// A walk to an event from a trace that is none of its members enters them at an event of a greater level: somewhere on
+/// the walk an event of no member comes right before one of a member, and the level of that one is greater.
 pub fn walk_enters_above()
     ensures { (types : TypeTable) (clustering : Clustering) (journal : List Entry) → IsLegal types journal
         → (e : Event) → Contains (delivered_by journal) e
         → (a : Event) (through : List Event) → Walk types (delivered_by journal) a through e
         → is_member clustering (deliveries_by journal) e.id a.id.trace ≡ false
-        → (at : Event) × Contains through at
+        → (earlier : List Event) × (from : Event) × (at : Event) × (later : List Event) × (a ∷ through ≡ earlier ++ from ∷ at ∷ later)
+        × (is_member clustering (deliveries_by journal) e.id from.id.trace ≡ false)
         × (is_member clustering (deliveries_by journal) e.id at.id.trace ≡ true)
         × (level_of clustering (deliveries_by journal) e.id < level_of clustering (deliveries_by journal) at.id) }
 {}

@@ -1,12 +1,11 @@
-use Rattle.std.specs.Prelude.{◌≡◌, ◌⊎◌, ℕ, Bool, true, false, List, [], ◌∷◌, ◌++◌, None, Some, codes}
+use Rattle.std.specs.Prelude.{◌≡◌, ◌⊎◌, ℕ, Bool, true, false, List, [], ◌∷◌, ◌++◌, Some, codes}
 use Rattle.std.specs.List.{AllByRecursion}
 use Rattle.causal_base.specs.declared.answer.Answer.{Answer}
 use Rattle.causal_base.specs.declared.answer.Answer.TheVariants.{Known, NotYet}
 use Rattle.causal_base.specs.declared.entry.Entry.{Entry}
 use Rattle.causal_base.specs.declared.event.Event.{Event}
 use Rattle.causal_base.specs.declared.event_id.EventId.{EventId}
-use Rattle.causal_base.specs.declared.kind.Kind.TheVariants.{Unary, Send, Receive}
-use Rattle.causal_base.specs.Types.{TypeTable}
+use Rattle.causal_base.specs.Types.{TypeTable, builtin_types}
 use Rattle.causal_base.specs.Event.{IsFit}
 use Rattle.causal_base.specs.Spelling.{id_text}
 use Rattle.causal_base.specs.Fields.{IsIdInRange}
@@ -17,15 +16,9 @@ use Rattle.causal_base.specs.Asked.{IsAsked}
 use Rattle.raw_reader.specs.Lines.{text_of}
 use Rattle.poet_io.specs.Folder.{Folder}
 
--- the types of the events that `ask` reads: `u` unary, `s` send and `r` receive, over 256 traces
+-- the types of the events that `ask` reads: the built-in ones, over 256 traces
 abbrev pub asked_types : TypeTable
-asked_types = record {
-  traces = 256;
-  rows = record { name = codes "u"; kind = Unary; mate = None }
-      ∷ record { name = codes "s"; kind = Send; mate = Some 2 }
-      ∷ record { name = codes "r"; kind = Receive; mate = Some 1 }
-      ∷ [];
-}
+asked_types = builtin_types 256
 
 -- how many events one thread takes at most
 abbrev pub most_events : ℕ

@@ -3,14 +3,14 @@ ghost use Rattle.std.specs.List.{AllByRecursion};
 ghost use Rattle.causal_base.specs.declared.entry.Entry.TheVariants.{Ended};
 ghost use Rattle.causal_base.specs.Event.{IsFit};
 ghost use Rattle.causal_base.specs.InTurn.{TakesInTurn};
-ghost use Rattle.poet_top.specs.Ask.{asked_types, most_events, IsTaken, IsAnswerOver};
+ghost use Rattle.poet_top.specs.Ask.{most_events, IsTaken, IsAnswerOver};
 
 use crate::fault::Fault;
-use crate::plan::Plan;
-use causal_base::{Answer, Event, EventId, Kind, Plain, Refusal, Text, TypeRow, Types};
+use crate::plan::{MOST_TRACES, Plan};
+use causal_base::{Answer, Event, EventId, Plain, Refusal, Types};
 use poet_io::{Bytes, Files, OpenError, ReadAllError, read_all};
 use raw_reader::{Events, read_lines};
-use std::alloc::{AllocError, Global};
+use std::alloc::Global;
 
 /// How many bytes a file of events has at most.
 const MOST_BYTES: u64 = 65_536;
@@ -56,7 +56,7 @@ fn answer_over<'a>(
 ) -> Result<Answer<bool>, Fault<'a>>
     ensures { IfOk result (IsAnswerOver bytes.now a b) }
 {
-    let Ok(types) = types_asked(alloc) else {
+    let Ok(types) = Types::builtin(alloc, MOST_TRACES) else {
         return Err(Fault::Memory);
     };
     let events = match read_lines(alloc, bytes, &types) {
@@ -96,27 +96,4 @@ fn offer<'a>(plain: &mut Plain, event: Event) -> Result<(), Fault<'a>>
         Err(Refusal::Full) => Err(Fault::Full),
         Err(Refusal::Oom) => Err(Fault::Memory),
     }
-}
-
-/// The types of the events that are read.
-fn types_asked(alloc: Global) -> Result<Types, AllocError>
-    ensures { IfOk result (λ types. types ≡ asked_types) }
-{
-    let rows = vec![in alloc;
-        row(alloc, b"u", Kind::Unary, None)?,
-        row(alloc, b"s", Kind::Send, Some(2))?,
-        row(alloc, b"r", Kind::Receive, Some(1))?,
-    ]?;
-    Ok(Types::new(256, rows))
-}
-
-/// A type with this name.
-fn row(alloc: Global, name: &[u8], kind: Kind, mate: Option<u8>) -> Result<TypeRow, AllocError>
-    ensures { IfOk result (λ row. row ≡ record { name = name.now; kind = kind; mate = mate }) }
-{
-    Ok(TypeRow {
-        name: Text::new(alloc, name)?,
-        kind,
-        mate,
-    })
 }

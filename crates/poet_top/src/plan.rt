@@ -4,8 +4,8 @@ ghost use Rattle.poet_top.specs.Ask.{AreAskWords};
 
 use causal_base::{EventId, id_of};
 
-/// How many traces an id of the command line may name.
-const MOST_TRACES: u32 = 256;
+/// How many traces there are: an id of the command line names one of them.
+pub const MOST_TRACES: u32 = 256;
 
 /// What the words of the command line ask for: whether the event `a` happened before the event `b`, over
 /// the events of the file of this name.

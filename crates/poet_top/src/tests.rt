@@ -2,7 +2,6 @@
 //! were worked out by hand.
 
 ghost use Rattle.std.specs.Prelude.{◌≡◌, IfOk};
-ghost use Rattle.poet_top.specs.Watched.{watched_types};
 
 use crate::ask::offer_all;
 use crate::fault::Fault;
@@ -13,8 +12,11 @@ use raw_reader::read_lines;
 use std::alloc::{AllocError, Global};
 use std::test::Fail;
 
-/// Two events before which the sink is full: no test writes so much.
+/// How many bytes a sink takes: no test writes so much.
 const ROOM: usize = 1000;
+
+/// How many traces the table of lists has.
+const TRACES: u32 = 4;
 
 fn words_from(alloc: Global, words: &[&str]) -> Result<Vec<String>, AllocError> {
     let mut owned = Vec::new(alloc);
@@ -44,7 +46,8 @@ fn run(
 #[test]
 fn asks_over_a_file(rt: HostRuntime) -> Result<(), Fail> {
     let message = b"0.1 s - 5\n1.1 r 0.1 6\n".as_slice();
-    let rows: [(&[&str], &[u8], u8, &[u8]); 16] = [
+    let pair = b"0.1 u - 1\n0.2 y 2.1 2\n2.1 y 0.2 3\n".as_slice();
+    let rows: [(&[&str], &[u8], u8, &[u8]); 21] = [
         (&["ask", "e.txt", "0.1", "1.1"], message, 0, b"yes\n"),
         (&["ask", "e.txt", "0.1", "2.1"], message, 0, b"notyet 2.1\n"),
         (&["ask", "e.txt", "0.1", "0.1"], message, 0, b"no\n"),
@@ -56,6 +59,21 @@ fn asks_over_a_file(rt: HostRuntime) -> Result<(), Fail> {
             b"notyet 255.1000000\n",
         ),
         (&["ask", "e.txt", "0.1", "1.1"], b"", 0, b"notyet 0.1\n"),
+        (
+            &["ask", "e.txt", "0.1", "1.1"],
+            b"0.1 y 1.1 0\n1.1 y 0.1 0\n",
+            0,
+            b"no\n",
+        ),
+        (&["ask", "e.txt", "0.1", "2.1"], pair, 0, b"yes\n"),
+        (&["ask", "e.txt", "0.2", "2.1"], pair, 0, b"no\n"),
+        (&["ask", "e.txt", "2.1", "0.2"], pair, 0, b"no\n"),
+        (
+            &["ask", "e.txt", "0.1", "1.1"],
+            b"0.1 y 2.1 1\n2.1 y 1.1 2\n",
+            0,
+            b"notyet 0.1\n",
+        ),
         (&["ask", "e.txt", "0.1", "x"], message, 1, b"poet: words\n"),
         (
             &["ask", "e.txt", "0.1", "256.1"],
@@ -158,38 +176,31 @@ fn limits_hold(rt: HostRuntime) -> Result<(), Fail> {
     Ok(())
 }
 
-/// The types `u`, `s` and `r`, and `w`, whose events watch, over three traces.
-fn types_watched(alloc: Global) -> Result<Types, AllocError>
-    ensures { IfOk result (λ types. types ≡ watched_types) }
-{
+/// Types of all five kinds, named by a letter as the built-in ones; those of `w` watch.
+fn types_of_all_kinds(alloc: Global) -> Result<Types, AllocError> {
     let rows = vec![in alloc;
-        TypeRow {
-            name: Text::new(alloc, b"u")?,
-            kind: Kind::Unary,
-            mate: None
-        },
-        TypeRow {
-            name: Text::new(alloc, b"s")?,
-            kind: Kind::Send,
-            mate: Some(2)
-        },
-        TypeRow {
-            name: Text::new(alloc, b"r")?,
-            kind: Kind::Receive,
-            mate: Some(1)
-        },
-        TypeRow {
-            name: Text::new(alloc, b"w")?,
-            kind: Kind::Watch,
-            mate: None
-        },
+        row(alloc, b"u", Kind::Unary, None)?,
+        row(alloc, b"s", Kind::Send, Some(2))?,
+        row(alloc, b"r", Kind::Receive, Some(1))?,
+        row(alloc, b"y", Kind::Sync, Some(3))?,
+        row(alloc, b"w", Kind::Watch, None)?,
     ]?;
-    Ok(Types::new(3, rows))
+    Ok(Types::new(TRACES, rows))
+}
+
+fn row(alloc: Global, name: &[u8], kind: Kind, mate: Option<u8>) -> Result<TypeRow, AllocError>
+    ensures { IfOk result (λ row. row ≡ record { name = name.now; kind = kind; mate = mate }) }
+{
+    Ok(TypeRow {
+        name: Text::new(alloc, name)?,
+        kind,
+        mate,
+    })
 }
 
 /// A plain list to which the events of these lines were offered.
 fn plain_of(alloc: Global, text: &[u8]) -> Result<Option<Plain>, AllocError> {
-    let types = types_watched(alloc)?;
+    let types = types_of_all_kinds(alloc)?;
     let Some(events) = read_lines(alloc, text, &types)? else {
         return Ok(None);
     };
@@ -200,11 +211,11 @@ fn plain_of(alloc: Global, text: &[u8]) -> Result<Option<Plain>, AllocError> {
     }
 }
 
-/// Whether the delivered events of traces 0 to 2 with numbers 1 to 4 are just these.
+/// Whether the delivered events with numbers 1 to 4 are just these.
 fn delivers_just(plain: &Plain, ids: &str) -> bool {
     let mut told = 0u32;
     for id in ids.split_whitespace() {
-        match id_of(id.as_bytes(), 3) {
+        match id_of(id.as_bytes(), TRACES) {
             Ok(id) => {
                 if plain.event(id).is_none() {
                     return false;
@@ -215,7 +226,7 @@ fn delivers_just(plain: &Plain, ids: &str) -> bool {
         told = told.saturating_add(1);
     }
     let mut found = 0u32;
-    for trace in 0..3 {
+    for trace in 0..TRACES {
         for number in 1..5 {
             if plain.event(EventId { trace, number }).is_some() {
                 found = found.saturating_add(1);
@@ -233,7 +244,7 @@ fn answers_so(alloc: Global, plain: &Plain, line: &str) -> Result<bool, AllocErr
     let Some((b, told)) = rest.split_once(' ') else {
         return Ok(false);
     };
-    match (id_of(a.as_bytes(), 3), id_of(b.as_bytes(), 3)) {
+    match (id_of(a.as_bytes(), TRACES), id_of(b.as_bytes(), TRACES)) {
         (Ok(a), Ok(b)) => Ok(is_told(plain.before(alloc, a, b)?, told)),
         _ => Ok(false),
     }
@@ -245,14 +256,14 @@ fn is_told(answer: Answer<bool>, told: &str) -> bool {
         Answer::Known(true) => told == "yes",
         Answer::Known(false) => told == "no",
         Answer::NotYet(id) => match told.strip_prefix("notyet ") {
-            Some(text) => id_of(text.as_bytes(), 3) == Ok(id),
+            Some(text) => id_of(text.as_bytes(), TRACES) == Ok(id),
             None => false,
         },
     }
 }
 
 /// Lines of events, the ids that are delivered, and lines of questions with their answers.
-const CASES: [(&str, &str, &str); 25] = [
+const CASES: [(&str, &str, &str); 39] = [
     // No event at all, one event, and two that know nothing of each other.
     ("", "", "0.1 1.1 notyet 0.1"),
     (
@@ -363,6 +374,85 @@ const CASES: [(&str, &str, &str); 25] = [
         "0.1 0.2 1.1 1.2 1.3",
         "0.1 1.3 yes\n1.1 0.2 no\n0.2 1.1 no\n1.1 1.3 yes",
     ),
+    // Partners, whose halves come together or far apart.
+    (
+        "0.1 y 1.1 0\n1.1 y 0.1 0\n",
+        "0.1 1.1",
+        "0.1 1.1 no\n1.1 0.1 no",
+    ),
+    (
+        "0.1 y 1.1 0\n2.1 u - 0\n1.2 u - 0\n0.2 s - 0\n2.2 r 0.2 0\n1.1 y 0.1 0\n",
+        "0.1 0.2 1.1 1.2 2.1 2.2",
+        "0.1 1.2 yes\n1.1 0.2 yes\n1.1 2.2 yes\n2.1 0.1 no\n0.2 1.2 no",
+    ),
+    // A half that names a third, a ring of three, and a half that names no sync event.
+    (
+        "0.1 y 2.1 0\n2.1 y 1.1 0\n",
+        "",
+        "0.1 2.1 notyet 0.1\n2.1 0.1 notyet 2.1",
+    ),
+    (
+        "0.1 y 1.1 0\n1.1 y 2.1 0\n2.1 y 0.1 0\n",
+        "",
+        "0.1 1.1 notyet 0.1",
+    ),
+    (
+        "0.1 y 1.1 0\n1.1 u - 0\n0.2 u - 0\n",
+        "1.1",
+        "0.1 1.1 notyet 0.1\n1.1 0.2 notyet 0.2",
+    ),
+    // Two of one trace are no partners.
+    (
+        "0.1 y 0.2 0\n0.2 y 0.1 0\n",
+        "",
+        "0.1 0.2 notyet 0.1\n0.2 0.1 notyet 0.2",
+    ),
+    // A chain of pairs over four traces, its last pair first.
+    (
+        "2.2 y 3.1 0\n3.1 y 2.2 0\n1.2 y 2.1 0\n2.1 y 1.2 0\n0.1 y 1.1 0\n1.1 y 0.1 0\n",
+        "0.1 1.1 1.2 2.1 2.2 3.1",
+        "0.1 3.1 yes\n1.1 3.1 yes\n1.2 2.2 yes\n2.1 3.1 yes\n3.1 0.1 no\n2.1 1.2 no\n2.2 1.1 no",
+    ),
+    // A pair behind a receive that never goes, and one behind an event that comes last.
+    (
+        "0.1 r 1.4 0\n0.2 y 1.1 0\n1.1 y 0.2 0\n1.2 u - 0\n",
+        "",
+        "1.1 1.2 notyet 1.1\n0.2 1.1 notyet 0.2",
+    ),
+    (
+        "0.1 y 1.2 0\n1.2 y 0.1 0\n1.1 u - 0\n",
+        "0.1 1.1 1.2",
+        "1.1 0.1 yes\n0.1 1.1 no\n0.1 1.2 no",
+    ),
+    // Pairs that wait for each other for good, and traces that pair twice.
+    (
+        "0.1 y 1.2 0\n0.2 y 1.1 0\n1.1 y 0.2 0\n1.2 y 0.1 0\n",
+        "",
+        "0.1 1.2 notyet 0.1\n1.1 0.1 notyet 1.1",
+    ),
+    (
+        "0.2 y 1.2 0\n1.2 y 0.2 0\n1.1 y 0.1 0\n0.1 y 1.1 0\n",
+        "0.1 0.2 1.1 1.2",
+        "0.1 1.2 yes\n1.1 0.2 yes\n0.2 1.2 no\n1.2 0.2 no\n0.2 1.1 no",
+    ),
+    // What is before one partner is before the other, and so with what is after.
+    (
+        "0.1 s - 0\n1.1 r 0.1 0\n1.2 y 2.1 0\n2.1 y 1.2 0\n2.2 s - 0\n3.1 r 2.2 0\n",
+        "0.1 1.1 1.2 2.1 2.2 3.1",
+        "0.1 2.1 yes\n1.1 2.1 yes\n0.1 3.1 yes\n1.2 3.1 yes\n1.2 2.2 yes\n3.1 0.1 no\n2.1 1.2 no",
+    ),
+    // A watch of a partner, and a receive that names one.
+    (
+        "0.1 y 1.1 0\n1.1 y 0.1 0\n2.1 w 1.1 0\n3.1 r 0.1 0\n",
+        "0.1 1.1 2.1",
+        "0.1 2.1 yes\n2.1 0.1 no\n0.1 3.1 notyet 3.1",
+    ),
+    // Of two halves with one id the first counts.
+    (
+        "0.1 y 1.1 1\n0.1 y 2.1 1\n2.1 y 0.1 1\n1.1 y 0.1 1\n",
+        "0.1 1.1",
+        "0.1 1.1 no\n0.1 2.1 notyet 2.1",
+    ),
 ];
 
 #[test]
@@ -393,7 +483,7 @@ fn takes_no_more_than_its_limit(rt: HostRuntime) -> Result<(), Fail> {
     assert!(rt; full.event(last).is_some());
 
     text.extend_from_slice(b"0.1 u - 0\n1.1 u - 0\n")?;
-    let types = types_watched(alloc)?;
+    let types = types_of_all_kinds(alloc)?;
     let events = read_lines(alloc, &text, &types)?.ok_or("the lines are refused")?;
     let mut plain = Plain::new(alloc, types);
     assert_eq!(rt; offer_all(&mut plain, events), Err(Fault::Full));

@@ -6,11 +6,11 @@ use Rattle.causal_base.specs.Past.{came}
 use Rattle.causal_base.specs.PlainList.{IsOpenJournal}
 use Rattle.causal_base.proofs.plain.settle.Given as goal
 
-abbrev pub invariant-loop-id : goal.invariant-loop-id
-invariant-loop-id l = record {
+abbrev pub invariant-loop-block : goal.invariant-loop-block
+invariant-loop-block l = record {
   kept : IsOpenJournal l.types l.journal;
   more : (more : List Entry) × (l.journal ≡ l.initial.journal ++ more) × AllByRecursion DeliversSomething more;
 }
 
-abbrev pub decreases-loop-id : goal.decreases-loop-id
-decreases-loop-id l = 2 * length (came (reverse l.journal)) - length l.journal
+abbrev pub decreases-loop-block : goal.decreases-loop-block
+decreases-loop-block l = 2 * length (came (reverse l.journal)) - length l.journal

@@ -8,4 +8,4 @@ use Rattle.causal_laws.proofs.entry.walk_enters_above.Goals as goal
 pub returns : goal.returns
 returns c types clustering journal legal e there a through walk outside =
     let enters = walk_enters types clustering (deliveries_by journal) (causal types (reverse journal) legal) through a e there walk outside in
-    (enters.0, enters.1, enters.2.member, enters.2.above)
+    (enters.earlier, enters.from, enters.at, enters.later, enters.is_walk, enters.outside, enters.member, enters.above)

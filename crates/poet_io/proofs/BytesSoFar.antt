@@ -1,9 +1,9 @@
 -- How what is left and what was taken go on over several calls.
-use Rattle.std.proofs.Common.{ℕ, ◌+◌, ◌-◌, List, ◌++◌, length, take, drop, Option, Some, None, sym, ap, ◌∙◌, append_assoc}
-use Rattle.std.proofs.Math.Seq.{take-add}
-use Rattle.std.proofs.lemmas.List.{take_rest}
+use Rattle.std.proofs.Common.{ℕ, ◌+◌, ◌-◌, List, ◌++◌, length, take, drop, Option, Some, None, sym, ap, ◌∙◌, subst, arith, append_assoc}
+use Rattle.std.proofs.Math.Seq.{take-add, take-append-add}
+use Rattle.std.proofs.lemmas.List.{take_rest, take-append-le, length-append}
 use Rattle.std.specs.Option.{option_map}
-use Rattle.poet_io.specs.Grows.{Grows}
+use Rattle.poet_io.specs.Grows.{Grows, GrowsByFront}
 use Rattle.poet_io.specs.Takes.{TakesFront}
 
 -- a sink that took bytes and then more took both
@@ -22,3 +22,19 @@ TakesFront-append a b (Some z) xs ys first second =
 pub Grows_further : (a b c : Option (List ℕ)) (bytes : List ℕ) (n m : ℕ) → Grows a b (take n bytes) → Grows b c (take m (take (length bytes - n) (drop n bytes))) → Grows a c (take (n + m) bytes)
 Grows_further a b c bytes n m first second =
     rw (take-add n m bytes) (Grows-append a b c (take n bytes) (take m (drop n bytes)) first (rw (take_rest bytes n) at second))
+
+-- a sink that took a front of some bytes took a front of these and more
+pub GrowsByFront-more : (a b : Option (List ℕ)) (xs ys : List ℕ) → GrowsByFront a b xs → GrowsByFront a b (xs ++ ys)
+GrowsByFront-more a b xs ys part = (
+  part.0,
+  (let size = length-append xs ys in let within = part.1 in omega (arith, size, within)),
+  subst (Grows a b) (sym (take-append-le part.0 xs ys part.1)) part.2,
+)
+
+-- a sink that took bytes and then a front of more took a front of both
+pub GrowsByFront-after : (a b c : Option (List ℕ)) (xs ys : List ℕ) → Grows a b xs → GrowsByFront b c ys → GrowsByFront a c (xs ++ ys)
+GrowsByFront-after a b c xs ys first part = (
+  length xs + part.0,
+  (let size = length-append xs ys in let within = part.1 in omega (arith, size, within)),
+  subst (Grows a c) (sym (take-append-add xs ys part.0)) (Grows-append a b c xs (take part.0 ys) first part.2),
+)

@@ -1,2 +1,3 @@
 pub mod BytesSoFar
 pub mod StoredFiles
+pub mod GivenBack

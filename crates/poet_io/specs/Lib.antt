@@ -1,7 +1,9 @@
 pub mod Counter
 pub mod Faults
+pub mod FilesState
 pub mod Folder
 pub mod Grows
+pub mod Chains
 pub mod MemFile
 pub mod MemFolder
 pub mod MemSink
@@ -9,3 +11,4 @@ pub mod MemSource
 pub mod OpenError
 pub mod ReadAllError
 pub mod Takes
+pub mod Uses

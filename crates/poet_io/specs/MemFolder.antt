@@ -4,6 +4,8 @@ use Rattle.std.specs.Option.{option_map}
 use Rattle.std.specs.Str.{bytes_eq}
 use Rattle.poet_io.specs.declared.files.OpenError.{OpenError}
 use Rattle.poet_io.specs.declared.files.OpenError.TheVariants.{Absent, Failed, Oom}
+use Rattle.poet_io.specs.declared.uses.Use.{Use}
+use Rattle.poet_io.specs.declared.uses.Use.TheVariants.{Refused}
 use Rattle.poet_io.specs.Counter.{counted}
 use Rattle.poet_io.specs.Folder.{Folder}
 use Rattle.poet_io.specs.MemFile.{FileState}
@@ -15,15 +17,17 @@ pub record StoredState : Type 0 where
   pub bytes : List ℕ
   pub fail_at : List ℕ
 
--- the files, the newest first, the names that fail to open, and how often the folder failed
+-- the files, the newest first, the names that fail to open, how often the folder failed, and what became of its files,
+-- the newest first
 pub record FolderState : Type 0 where
   pub files : List StoredState
   pub failing : List (List ℕ)
   pub faults : ℕ
+  pub uses : List Use
 
 -- a folder with no file
 abbrev pub empty_folder : FolderState
-empty_folder = record { files = []; failing = []; faults = 0 }
+empty_folder = record { files = []; failing = []; faults = 0; uses = [] }
 
 -- the folder with one more file, which hides those of the same name
 abbrev pub with_file : FolderState → (name bytes fail_at : List ℕ) → FolderState
@@ -43,8 +47,8 @@ bytes_at files name = option_map (λ file. file.bytes) (file_at files name)
 abbrev pub opened : StoredState → FileState
 opened file = record { name = file.name; source = unread file.bytes file.fail_at }
 
--- an opening that failed counts a fault, and each other refusal changes nothing
-abbrev pub LeavesFolder : OpenError → (old new : FolderState) → Type 0
-LeavesFolder Absent old new = new ≡ old
-LeavesFolder Failed old new = new ≡ record old { faults = counted old.faults }
-LeavesFolder Oom old new = new ≡ old
+-- an opening that failed counts a fault and is noted, and each other refusal changes nothing
+abbrev pub LeavesFolder : OpenError → List ℕ → (old new : FolderState) → Type 0
+LeavesFolder Absent name old new = new ≡ old
+LeavesFolder Failed name old new = new ≡ record old { faults = counted old.faults; uses = Refused name ∷ old.uses }
+LeavesFolder Oom name old new = new ≡ old

@@ -30,4 +30,11 @@ impl Bytes {
     {
         self.items.as_slice()
     }
+
+    /// The bytes as a vector, with their memory.
+    pub fn into_vec(self) -> Vec<u8>
+        ensures { result.items ≡ self }
+    {
+        self.items
+    }
 }

@@ -1,7 +1,9 @@
-ghost use Rattle.std.specs.Prelude.{◌≡◌, ◌<◌, ℕ, Option, None, IfOk, IfSome, IsSome, IsSomeAnd, IsErrOf, MatchResult};
+ghost use Rattle.std.specs.Prelude.{◌≡◌, ◌<◌, ◌↔◌, ℕ, List, Option, None, IfOk, IfSome, IsSome, IsSomeAnd, IsErrOf, MatchResult};
 ghost use Rattle.poet_io.specs.OpenError.{CountsOpenError};
 ghost use Rattle.poet_io.specs.Faults.{IsRaised};
 ghost use Rattle.poet_io.specs.Folder.{Folder, IsOpenedAt};
+ghost use Rattle.poet_io.specs.Uses.{NotesOpenError, NotesClose};
+ghost use Rattle.poet_io.specs.declared.uses.Use.{Use};
 
 use crate::Source;
 use std::alloc::Global;
@@ -32,6 +34,12 @@ pub trait Files {
     /// The bytes that stand under each name, or `None` where it doesn't tell.
     ghost folder: { Self → Option Folder };
 
+    /// What became of its files so far, the oldest first, or `None` where it doesn't tell.
+    ghost uses: { Self → Option (List Use) };
+
+    /// It tells both or neither.
+    ghost tells_both: { (files : Self) → IsSome (folder files) ↔ IsSome (uses files) };
+
     /// Opens a file, to be read from its start. `Absent` is told only by a folder that tells what
     /// stands in it.
     fn open(&mut self, alloc: Global, name: &str) -> Result<Self::In, OpenError>
@@ -42,6 +50,9 @@ pub trait Files {
             IsSomeAnd (folder self.old) (λ files. files name.now ≡ None) }
         ensures same_files { folder self.new ≡ folder self.old }
 
+        ensures uses { MatchResult result
+            (λ _. uses self.new ≡ uses self.old)
+            (λ e. NotesOpenError e name.now (uses self.old) (uses self.new)) }
         ensures faults { MatchResult result
             (λ _. faults self.new ≡ faults self.old)
             (λ e. CountsOpenError e (faults self.old) (faults self.new)) };
@@ -54,5 +65,6 @@ pub trait Files {
 
         ensures no_fault { Self.In.faults source ≡ 0 → faults self.new ≡ faults self.old }
         ensures fault { 0 < Self.In.faults source → IsRaised (faults self.old) (faults self.new) }
-        ensures same_files { folder self.new ≡ folder self.old };
+        ensures same_files { folder self.new ≡ folder self.old }
+        ensures uses { NotesClose (Self.In.name source) (Self.In.left source) (Self.In.faults source) (uses self.old) (uses self.new) };
 }

@@ -42,6 +42,10 @@ where
 
     ghost folder = { λ _. None };
 
+    ghost uses = { λ _. None };
+
+    ghost tells_both = { λ _. ((λ told. told), (λ told. told)) };
+
     fn open(&mut self, _alloc: Global, name: &str) -> Result<HostFile<R::File>, OpenError> {
         match File::open(&self.runtime, name) {
             Ok(file) => Ok(HostFile::new(file)),

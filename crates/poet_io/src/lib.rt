@@ -17,6 +17,7 @@ mod never_sink;
 mod reading;
 mod sink;
 mod source;
+mod uses;
 mod writing;
 
 pub use bytes::Bytes;
@@ -33,6 +34,7 @@ pub use never_sink::NeverSink;
 pub use reading::{ReadAllError, read_all};
 pub use sink::Sink;
 pub use source::Source;
+pub use uses::Use;
 pub use writing::put;
 
 #[cfg(test)]

@@ -1,15 +1,18 @@
-ghost use Rattle.std.specs.Prelude.{◌≡◌, ◌<◌, ◌↔◌, min, length, take, drop, Contains, IsErr, IfOk, OnErr};
+ghost use Rattle.std.specs.Prelude.{◌≡◌, ◌<◌, ◌∷◌, ◌↔◌, nat_lt, min, length, take, drop, Contains, IsErr, IfOk, OnErr};
 ghost use Rattle.poet_io.specs.Counter.{counted};
 ghost use Rattle.poet_io.specs.Faults.{IsRaised};
+ghost use Rattle.poet_io.specs.declared.uses.Use.TheVariants.{Closed};
 
-use crate::{Bytes, Failed, MemSource, Source};
+use crate::uses::{Room, Uses};
+use crate::{Bytes, Failed, MemSource, Source, Use};
 use std::marker::Model;
 
-/// An open file of a [`MemFolder`](crate::MemFolder).
+/// An open file of a [`MemFolder`](crate::MemFolder), with the room for what the folder notes when it is given back.
 #[derive(Debug, Drop)]
 pub struct MemFile {
     name: Bytes,
     source: MemSource,
+    room: Room,
 }
 
 impl Model for MemFile {
@@ -23,10 +26,10 @@ impl Model for MemFile {
 impl MemFile {
     ghost use Rattle.poet_io.specs.MemFile.{FileState};
 
-    pub(crate) fn new(name: Bytes, source: MemSource) -> Self
+    pub(crate) fn new(name: Bytes, source: MemSource, room: Room) -> Self
         ensures { result ≡ record { name = name; source = source } }
     {
-        MemFile { name, source }
+        MemFile { name, source, room }
     }
 
     // How often a read of it has failed.
@@ -34,6 +37,17 @@ impl MemFile {
         ensures { result ≡ self.now.source.faults }
     {
         self.source.faults()
+    }
+
+    // Notes what became of it, in its own room.
+    pub(crate) fn close_into(self, uses: &mut Uses)
+        ensures { uses.new ≡ Closed self.name self.source.left (nat_lt 0 self.source.faults) ∷ uses.old }
+    {
+        let failed = self.source.faults() > 0;
+        uses.add(
+            Use::Closed(self.name, self.source.into_left(), failed),
+            self.room,
+        );
     }
 }
 

@@ -1,11 +1,14 @@
-ghost use Rattle.std.specs.Prelude.{◌≡◌, ◌<◌, ◌∷◌, ◌++◌, ◌↔◌, [], Some, None, Contains, IsTrue, IsSome, IsErrOf, IfOk, OnOk, OnErr, MatchResult};
+ghost use Rattle.std.specs.Prelude.{◌≡◌, ◌<◌, ◌∷◌, ◌++◌, ◌⊎◌, ◌↔◌, List, [], nat_lt, cond, Some, None, Contains, IfSome, IfNone, IsTrue, IsSome, IsErrOf, IfOk, OnOk, OnErr, MatchResult};
 ghost use Rattle.std.specs.Option.{option_copied};
 ghost use Rattle.std.specs.Str.{bytes_eq};
 ghost use Rattle.poet_io.specs.Counter.{counted};
 ghost use Rattle.poet_io.specs.Faults.{IsRaised};
+ghost use Rattle.poet_io.specs.declared.uses.Use.{Use};
+ghost use Rattle.poet_io.specs.declared.uses.Use.TheVariants.{Refused, Closed};
 ghost use Rattle.poet_io.specs.MemFolder.{LeavesFolder, empty_folder, file_at, opened, with_file};
 
-use crate::{Bytes, Files, MemFile, MemSource, OpenError};
+use crate::uses::{Room, Uses};
+use crate::{Bytes, Files, MemFile, MemSource, OpenError, Use};
 use std::alloc::{AllocError, Global};
 use std::marker::Model;
 
@@ -42,7 +45,8 @@ impl StoredFile {
         let name = copied(alloc, self.name.as_slice())?;
         let bytes = copied(alloc, self.bytes.as_slice())?;
         let fail_at = self.fail_at.as_slice().to_vec(alloc)?;
-        Ok(MemFile::new(name, MemSource::new(bytes, fail_at)))
+        let room = Room::new(alloc)?;
+        Ok(MemFile::new(name, MemSource::new(bytes, fail_at), room))
     }
 }
 
@@ -53,6 +57,7 @@ pub struct MemFolder {
     files: Vec<StoredFile>,
     failing: Vec<Bytes>,
     faults: u64,
+    uses: Uses,
 }
 
 impl Model for MemFolder {
@@ -64,6 +69,7 @@ impl Model for MemFolder {
       files = folder.files.items;
       failing = folder.failing.items;
       faults = folder.faults;
+      uses = folder.uses;
     } };
 }
 
@@ -77,6 +83,7 @@ impl MemFolder {
             files: Vec::new(alloc),
             failing: Vec::new(alloc),
             faults: 0,
+            uses: Uses::new(),
         }
     }
 
@@ -106,6 +113,30 @@ impl MemFolder {
         self.failing.push(name)?;
         Ok(())
     }
+
+    /// What became of the last file that was given back or failed to open, if there was one.
+    pub fn last_use(&self) -> Option<&Use>
+        ensures some { IfSome result (λ newest. (older : List Use) × (self.now.uses ≡ newest.now ∷ older)) }
+        ensures none { IfNone result (self.now.uses ≡ []) }
+    {
+        self.uses.newest()
+    }
+
+    // Counts that a file of this name failed to open, and notes it.
+    fn fail(&mut self, alloc: Global, name: &str) -> Result<(), AllocError>
+        ensures ok { OnOk result (self.new ≡ record self.old {
+          faults = counted self.old.faults;
+          uses = Refused name.now ∷ self.old.uses;
+        }) }
+        ensures fault { OnOk result (IsRaised self.old.faults self.new.faults) }
+        ensures err { OnErr result (self.new ≡ self.old) }
+    {
+        let refused = Use::Refused(copied(alloc, name.as_bytes())?);
+        let room = Room::new(alloc)?;
+        self.uses.add(refused, room);
+        self.faults = self.faults.saturating_add(1);
+        Ok(())
+    }
 }
 
 fn copied(alloc: Global, bytes: &[u8]) -> Result<Bytes, AllocError>
@@ -128,7 +159,8 @@ fn has_name(names: &[Bytes], name: &[u8]) -> bool
 }
 
 impl Files for MemFolder {
-    ghost use Rattle.std.specs.Prelude.{Some};
+    ghost use Rattle.std.specs.Prelude.{Some, reverse};
+    ghost use Rattle.std.proofs.Common.{refl};
     ghost use Rattle.poet_io.specs.MemFolder.{bytes_at};
 
     type In = MemFile;
@@ -137,12 +169,18 @@ impl Files for MemFolder {
 
     ghost folder = { λ folder. Some (bytes_at folder.files) };
 
+    ghost uses = { λ folder. Some (reverse folder.uses) };
+
+    ghost tells_both = { λ _. ((λ _. refl), (λ _. refl)) };
+
     /// Fails at the names that are to fail, is `Absent` where there is no file, and else opens a
-    /// copy of it.
+    /// copy of it. Memory is taken for what is noted of the file, at each of these but `Absent`.
     fn open(&mut self, alloc: Global, name: &str) -> Result<MemFile, OpenError>
-        ensures failing { IsErrOf result OpenError.Failed ↔ Contains self.old.failing name.now }
+        ensures failed { IsErrOf result OpenError.Failed → Contains self.old.failing name.now }
+        ensures failing { Contains self.old.failing name.now → IsErrOf result OpenError.Failed ⊎ IsErrOf result OpenError.Oom }
         ensures absent { IsErrOf result OpenError.Absent → file_at self.old.files name.now ≡ None }
-        ensures oom { IsErrOf result OpenError.Oom → IsSome (file_at self.old.files name.now) }
+        ensures oom { IsErrOf result OpenError.Oom →
+            Contains self.old.failing name.now ⊎ IsSome (file_at self.old.files name.now) }
         ensures opened { IfOk result (λ file.
             (stored : _)
             × (file_at self.old.files name.now ≡ Some stored)
@@ -150,12 +188,14 @@ impl Files for MemFolder {
 
         ensures folder { MatchResult result
             (λ _. self.new ≡ self.old)
-            (λ e. LeavesFolder e self.old self.new) }
+            (λ e. LeavesFolder e name.now self.old self.new) }
         ensures fault { IsErrOf result OpenError.Failed → IsRaised self.old.faults self.new.faults }
     {
         if has_name(&self.failing, name.as_bytes()) {
-            self.faults = self.faults.saturating_add(1);
-            return Err(OpenError::Failed);
+            return match self.fail(alloc, name) {
+                Ok(()) => Err(OpenError::Failed),
+                Err(_) => Err(OpenError::Oom),
+            };
         }
         match find_file(&self.files, name.as_bytes()) {
             None => Err(OpenError::Absent),
@@ -163,15 +203,17 @@ impl Files for MemFolder {
         }
     }
 
-    /// Counts one fault where the file has failed, and changes nothing else.
+    /// Counts one fault where the file has failed, and notes what became of it. It takes no memory.
     fn close(&mut self, source: MemFile)
-        ensures no_fault { source.source.faults ≡ 0 → self.new ≡ self.old }
-        ensures faulted { 0 < source.source.faults →
-            self.new ≡ record self.old { faults = counted self.old.faults } }
+        ensures noted { self.new ≡ record self.old {
+          faults = cond (nat_lt 0 source.source.faults) (counted self.old.faults) self.old.faults;
+          uses = Closed source.name source.source.left (nat_lt 0 source.source.faults) ∷ self.old.uses;
+        } }
         ensures fault { 0 < source.source.faults → IsRaised self.old.faults self.new.faults }
     {
         if source.faults() > 0 {
             self.faults = self.faults.saturating_add(1);
         }
+        source.close_into(&mut self.uses);
     }
 }

@@ -52,6 +52,15 @@ impl MemSource {
     {
         self.faults
     }
+
+    // The bytes that are left, in the memory that they have.
+    pub(crate) fn into_left(self) -> Bytes
+        ensures { result ≡ self.left }
+    {
+        let mut bytes = self.bytes.into_vec();
+        bytes.drain(..self.at);
+        Bytes::new(bytes)
+    }
 }
 
 // Copies as many bytes as fit into the front of a buffer, and answers how many.

@@ -5,6 +5,23 @@ use std::test::Fail;
 
 const LONG: [u8; 5000] = [b'x'; 5000];
 
+// Whether the last use of the folder's files is this one.
+fn last_closed(folder: &MemFolder, name: &[u8], left: &[u8], failed: bool) -> bool {
+    match folder.last_use() {
+        Some(Use::Closed(its, rest, has_failed)) => {
+            its.as_slice() == name && rest.as_slice() == left && *has_failed == failed
+        }
+        _ => false,
+    }
+}
+
+fn last_refused(folder: &MemFolder, name: &[u8]) -> bool {
+    match folder.last_use() {
+        Some(Use::Refused(its)) => its.as_slice() == name,
+        _ => false,
+    }
+}
+
 #[derive(Clone, Copy, Debug, PartialEq, Eq)]
 enum NotRead {
     Open(OpenError),
@@ -91,11 +108,13 @@ fn a_sink_takes_all_or_a_front(rt: HostRuntime) -> Result<(), Fail> {
 fn a_folder_opens_its_files(rt: HostRuntime) -> Result<(), Fail> {
     let alloc = rt.alloc();
     let mut folder = MemFolder::new(alloc);
+    assert!(rt; folder.last_use().is_none());
     folder.add("a", b"one", &[])?;
     assert_eq!(rt;
         read_file(alloc, &mut folder, "a", 9)?.as_slice(),
         b"one".as_slice()
     );
+    assert!(rt; last_closed(&folder, b"a", b"", false));
     folder.add("a", b"two", &[])?;
     assert_eq!(rt;
         read_file(alloc, &mut folder, "a", 9)?.as_slice(),
@@ -104,6 +123,10 @@ fn a_folder_opens_its_files(rt: HostRuntime) -> Result<(), Fail> {
     folder.add("broken", b"three", &[1])?;
     let broken = read_file(alloc, &mut folder, "broken", 9).err();
     assert_eq!(rt; broken, Some(NotRead::Read(ReadAllError::Failed)));
+    assert!(rt; last_closed(&folder, b"broken", b"three", true));
+    let long = read_file(alloc, &mut folder, "a", 2).err();
+    assert_eq!(rt; long, Some(NotRead::Read(ReadAllError::TooLong)));
+    assert!(rt; last_closed(&folder, b"a", b"", false));
 
     let absent = read_file(alloc, &mut folder, "b", 9).err();
     assert_eq!(rt; absent, Some(NotRead::Open(OpenError::Absent)));
@@ -112,6 +135,7 @@ fn a_folder_opens_its_files(rt: HostRuntime) -> Result<(), Fail> {
     for name in ["a", "b"] {
         let failed = read_file(alloc, &mut folder, name, 9).err();
         assert_eq!(rt; failed, Some(NotRead::Open(OpenError::Failed)), "at {name}");
+        assert!(rt; last_refused(&folder, name.as_bytes()), "at {name}");
     }
     Ok(())
 }

@@ -1,2 +1,5 @@
 pub mod Words
 pub mod Turns
+pub mod Exits
+pub mod FileEnds
+pub mod Counted

@@ -1,1 +1,5 @@
 pub mod Ask
+pub mod Ends
+pub mod FaultOutcome
+pub mod Outcome
+pub mod Words

@@ -1,7 +1,8 @@
-ghost use Rattle.std.specs.Prelude.{◌++◌, codes, decimal, OnOk};
+ghost use Rattle.std.specs.Prelude.{◌≡◌, ◌++◌, codes, decimal, OnOk, OnErr};
 ghost use Rattle.causal_base.specs.Spelling.{id_text};
-ghost use Rattle.poet_io.specs.Grows.{Grows};
-ghost use Rattle.poet_top.specs.Ask.{answer_text};
+ghost use Rattle.poet_io.specs.Faults.{IsRaised};
+ghost use Rattle.poet_io.specs.Grows.{Grows, GrowsByFront};
+ghost use Rattle.poet_top.specs.Outcome.{answer_text};
 
 use causal_base::{Answer, EventId};
 use itoa::Buffer;
@@ -9,7 +10,10 @@ use poet_io::{Failed, Sink, put};
 
 /// Writes an answer, and ends the line.
 pub fn put_answer<K: Sink>(out: &mut K, answer: Answer<bool>) -> Result<(), Failed>
-    ensures { OnOk result (Grows (K.taken out.old) (K.taken out.new) (answer_text answer ++ codes "\n")) }
+    ensures all { OnOk result (Grows (K.taken out.old) (K.taken out.new) (answer_text answer ++ codes "\n")) }
+    ensures part { OnErr result (GrowsByFront (K.taken out.old) (K.taken out.new) (answer_text answer ++ codes "\n")) }
+    ensures no_fault { OnOk result (K.faults out.new ≡ K.faults out.old) }
+    ensures fault { OnErr result (IsRaised (K.faults out.old) (K.faults out.new)) }
 {
     match answer {
         Answer::Known(true) => put(out, b"yes\n"),
@@ -24,7 +28,10 @@ pub fn put_answer<K: Sink>(out: &mut K, answer: Answer<bool>) -> Result<(), Fail
 
 /// Writes an id.
 fn put_id<K: Sink>(out: &mut K, id: EventId) -> Result<(), Failed>
-    ensures { OnOk result (Grows (K.taken out.old) (K.taken out.new) (id_text id)) }
+    ensures all { OnOk result (Grows (K.taken out.old) (K.taken out.new) (id_text id)) }
+    ensures part { OnErr result (GrowsByFront (K.taken out.old) (K.taken out.new) (id_text id)) }
+    ensures no_fault { OnOk result (K.faults out.new ≡ K.faults out.old) }
+    ensures fault { OnErr result (IsRaised (K.faults out.old) (K.faults out.new)) }
 {
     put_number(out, id.trace)?;
     put(out, b".")?;
@@ -33,7 +40,10 @@ fn put_id<K: Sink>(out: &mut K, id: EventId) -> Result<(), Failed>
 
 /// Writes a number in decimal.
 fn put_number<K: Sink>(out: &mut K, number: u32) -> Result<(), Failed>
-    ensures { OnOk result (Grows (K.taken out.old) (K.taken out.new) (decimal number)) }
+    ensures all { OnOk result (Grows (K.taken out.old) (K.taken out.new) (decimal number)) }
+    ensures part { OnErr result (GrowsByFront (K.taken out.old) (K.taken out.new) (decimal number)) }
+    ensures no_fault { OnOk result (K.faults out.new ≡ K.faults out.old) }
+    ensures fault { OnErr result (IsRaised (K.faults out.old) (K.faults out.new)) }
 {
     let mut buffer = Buffer::new();
     put(out, buffer.format(number).as_bytes())

@@ -1,14 +1,20 @@
-ghost use Rattle.std.specs.Prelude.{◌≡◌, ℕ, List, [], ◌∷◌, ◌++◌, Some, IfOk, IfSome, OnOk};
+ghost use Rattle.std.specs.Prelude.{◌≡◌, ◌⊎◌, ◌<◌, ◌≤◌, ℕ, List, [], ◌∷◌, ◌++◌, length, IfOk, IfErr, OnOk};
 ghost use Rattle.std.specs.List.{AllByRecursion};
 ghost use Rattle.causal_base.specs.declared.entry.Entry.TheVariants.{Ended};
+ghost use Rattle.causal_base.specs.declared.event_id.EventId.{EventId};
 ghost use Rattle.causal_base.specs.Event.{IsFit};
+ghost use Rattle.causal_base.specs.Past.{HasEvent};
+ghost use Rattle.causal_base.specs.Journal.{came_by};
 ghost use Rattle.causal_base.specs.InTurn.{TakesInTurn};
-ghost use Rattle.poet_top.specs.Ask.{most_events, IsTaken, IsAnswerOver};
+ghost use Rattle.poet_io.specs.FilesState.{IsGivenBack};
+ghost use Rattle.poet_top.specs.Ask.{most_bytes, most_events, most_plain_events, count_of_ids, IsTaken, IsAnswerOver};
+ghost use Rattle.poet_top.specs.Ends.{TellsOf, EndsOver};
+ghost use Rattle.poet_top.specs.FaultOutcome.{outcome_of_fault, outcome_of, HasNoAnswer};
 
 use crate::fault::Fault;
 use crate::plan::{MOST_TRACES, Plan};
 use causal_base::{Answer, Event, EventId, Plain, Refusal, Types};
-use poet_io::{Bytes, Files, OpenError, ReadAllError, read_all};
+use poet_io::{Bytes, Files, read_all};
 use raw_reader::{Events, read_lines};
 use std::alloc::Global;
 
@@ -21,8 +27,10 @@ pub fn ask<'a, F: Files>(
     plan: &Plan<'a>,
     files: &mut F,
 ) -> Result<Answer<bool>, Fault<'a>>
-    ensures { IfOk result (λ answer. IfSome (F.folder files.old) (λ folder.
-        (bytes : List ℕ) × (folder plan.now.name.now ≡ Some bytes) × IsAnswerOver bytes plan.now.a plan.now.b answer)) }
+    ensures { EndsOver plan.now.name.now plan.now.a plan.now.b
+        (record { faults = F.faults files.old; folder = F.folder files.old; uses = F.uses files.old })
+        (record { faults = F.faults files.new; folder = F.folder files.new; uses = F.uses files.new })
+        (outcome_of result) }
 {
     let bytes = bytes_of(alloc, plan.name, files)?;
     answer_over(alloc, bytes.as_slice(), plan.a, plan.b)
@@ -30,20 +38,27 @@ pub fn ask<'a, F: Files>(
 
 /// All bytes of the file of this name.
 fn bytes_of<'a, F: Files>(alloc: Global, name: &'a str, files: &mut F) -> Result<Bytes, Fault<'a>>
-    ensures { IfOk result (λ bytes. IfSome (F.folder files.old) (λ folder. folder name.now ≡ Some bytes)) }
+    ensures within { IfOk result (λ bytes. length bytes ≤ most_bytes) }
+    ensures whole { IfOk result (λ bytes. TellsOf
+        (record { faults = F.faults files.old; folder = F.folder files.old; uses = F.uses files.old })
+        name.now (λ all. all ≡ bytes)) }
+    ensures given_back { OnOk result (IsGivenBack name.now []
+        (record { faults = F.faults files.old; folder = F.folder files.old; uses = F.uses files.old })
+        (record { faults = F.faults files.new; folder = F.folder files.new; uses = F.uses files.new })) }
+    ensures err { IfErr result (λ fault. (a b : EventId) → EndsOver name.now a b
+        (record { faults = F.faults files.old; folder = F.folder files.old; uses = F.uses files.old })
+        (record { faults = F.faults files.new; folder = F.folder files.new; uses = F.uses files.new })
+        (outcome_of_fault fault)) }
 {
     let mut source = match files.open(alloc, name) {
         Ok(source) => source,
-        Err(OpenError::Absent | OpenError::Failed) => return Err(Fault::Open(name)),
-        Err(OpenError::Oom) => return Err(Fault::Memory),
+        Err(error) => return Err(Fault::of_open(error, name)),
     };
     let bytes = read_all(alloc, &mut source, MOST_BYTES);
     files.close(source);
     match bytes {
         Ok(bytes) => Ok(bytes),
-        Err(ReadAllError::Failed) => Err(Fault::Read(name)),
-        Err(ReadAllError::TooLong) => Err(Fault::Line),
-        Err(ReadAllError::Oom) => Err(Fault::Memory),
+        Err(error) => Err(Fault::of_read(error, name)),
     }
 }
 
@@ -54,15 +69,18 @@ fn answer_over<'a>(
     a: EventId,
     b: EventId,
 ) -> Result<Answer<bool>, Fault<'a>>
-    ensures { IfOk result (IsAnswerOver bytes.now a b) }
+    requires { length bytes.now ≤ most_bytes }
+    ensures ok { IfOk result (IsAnswerOver bytes.now a b) }
+    ensures err { IfErr result (HasNoAnswer bytes.now) }
 {
     let Ok(types) = Types::builtin(alloc, MOST_TRACES) else {
         return Err(Fault::Memory);
     };
-    let events = match read_lines(alloc, bytes, &types) {
-        Ok(Some(events)) => events,
-        Ok(None) => return Err(Fault::Line),
-        Err(_) => return Err(Fault::Memory),
+    let Ok(found) = read_lines(alloc, bytes, &types) else {
+        return Err(Fault::Memory);
+    };
+    let Some(events) = found else {
+        return Err(Fault::Line);
     };
     let mut plain = Plain::new(alloc, types);
     offer_all(&mut plain, events)?;
@@ -78,6 +96,9 @@ pub fn offer_all<'a>(plain: &mut Plain, events: Events) -> Result<(), Fault<'a>>
     requires fit { AllByRecursion (IsFit plain.old.types) events }
     ensures types { plain.new.types ≡ plain.old.types }
     ensures in_turn { OnOk result (TakesInTurn plain.old.types most_events 0 events [] (plain.new.journal ++ Ended 0 ∷ [])) }
+    ensures few { OnOk result (count_of_ids events ≤ most_plain_events) }
+    ensures err { IfErr result (λ fault. (fault ≡ Fault.Memory)
+        ⊎ ((fault ≡ Fault.Full) × (most_plain_events < count_of_ids events))) }
 {
     for event in events.into_vec() {
         offer(plain, event)?;
@@ -90,6 +111,11 @@ fn offer<'a>(plain: &mut Plain, event: Event) -> Result<(), Fault<'a>>
     requires { IsFit plain.old.types event }
     ensures types { plain.new.types ≡ plain.old.types }
     ensures taken { OnOk result (IsTaken plain.old.types plain.old.journal event plain.new.journal) }
+    ensures room { OnOk result (HasEvent (came_by plain.old.journal) event.id
+        ⊎ (length (came_by plain.old.journal) < most_plain_events)) }
+    ensures err { IfErr result (λ fault. (fault ≡ Fault.Memory)
+        ⊎ ((fault ≡ Fault.Full) × (¬ HasEvent (came_by plain.old.journal) event.id)
+        × (length (came_by plain.old.journal) ≡ most_plain_events))) }
 {
     match plain.offer(event) {
         Ok(()) | Err(Refusal::Repeat | Refusal::Clash) => Ok(()),

@@ -1,6 +1,8 @@
-ghost use Rattle.std.specs.Prelude.{◌<◌};
+ghost use Rattle.std.specs.Prelude.{◌≡◌, ◌++◌, codes, OnOk, OnErr};
+ghost use Rattle.poet_io.specs.Faults.{IsRaised};
+ghost use Rattle.poet_io.specs.Grows.{Grows, GrowsByFront};
 
-use poet_io::{Failed, Sink, put};
+use poet_io::{Failed, OpenError, ReadAllError, Sink, put};
 
 /// Why there is no answer.
 #[derive(Clone, Copy, Debug, PartialEq, Eq)]
@@ -19,10 +21,34 @@ pub enum Fault<'a> {
     Full,
 }
 
-impl Fault<'_> {
+impl<'a> Fault<'a> {
+    ghost use Rattle.poet_top.specs.FaultOutcome.{outcome_of_fault, outcome_of_open, outcome_of_read};
+    ghost use Rattle.poet_top.specs.Outcome.{status_of, text_of_outcome};
+
+    /// The fault where the file of this name wasn't opened.
+    pub fn of_open(error: OpenError, name: &'a str) -> Fault<'a>
+        ensures { outcome_of_fault result ≡ outcome_of_open error name.now }
+    {
+        match error {
+            OpenError::Absent | OpenError::Failed => Fault::Open(name),
+            OpenError::Oom => Fault::Memory,
+        }
+    }
+
+    /// The fault where the file of this name wasn't read whole.
+    pub fn of_read(error: ReadAllError, name: &'a str) -> Fault<'a>
+        ensures { outcome_of_fault result ≡ outcome_of_read error name.now }
+    {
+        match error {
+            ReadAllError::Failed => Fault::Read(name),
+            ReadAllError::TooLong => Fault::Line,
+            ReadAllError::Oom => Fault::Memory,
+        }
+    }
+
     /// The status that the program ends with.
     pub fn status(&self) -> u8
-        ensures { 0 < result }
+        ensures { result ≡ status_of (outcome_of_fault self.now) }
     {
         match self {
             Fault::Words => 1,
@@ -34,7 +60,12 @@ impl Fault<'_> {
     }
 
     /// Writes the line that says what is wrong.
-    pub fn put<K: Sink>(&self, out: &mut K) -> Result<(), Failed> {
+    pub fn put<K: Sink>(&self, out: &mut K) -> Result<(), Failed>
+        ensures all { OnOk result (Grows (K.taken out.old) (K.taken out.new) (text_of_outcome (outcome_of_fault self.now))) }
+        ensures part { OnErr result (GrowsByFront (K.taken out.old) (K.taken out.new) (text_of_outcome (outcome_of_fault self.now))) }
+        ensures no_fault { OnOk result (K.faults out.new ≡ K.faults out.old) }
+        ensures fault { OnErr result (IsRaised (K.faults out.old) (K.faults out.new)) }
+    {
         match self {
             Fault::Words => put(out, b"poet: words\n"),
             Fault::Open(name) => put_named(out, b"poet: open ", name),
@@ -47,7 +78,12 @@ impl Fault<'_> {
 }
 
 /// Writes a line that ends with a name.
-fn put_named<K: Sink>(out: &mut K, what: &[u8], name: &str) -> Result<(), Failed> {
+fn put_named<K: Sink>(out: &mut K, what: &[u8], name: &str) -> Result<(), Failed>
+    ensures all { OnOk result (Grows (K.taken out.old) (K.taken out.new) (what.now ++ name.now ++ codes "\n")) }
+    ensures part { OnErr result (GrowsByFront (K.taken out.old) (K.taken out.new) (what.now ++ name.now ++ codes "\n")) }
+    ensures no_fault { OnOk result (K.faults out.new ≡ K.faults out.old) }
+    ensures fault { OnErr result (IsRaised (K.faults out.old) (K.faults out.new)) }
+{
     put(out, what)?;
     put(out, name.as_bytes())?;
     put(out, b"\n")

@@ -1,6 +1,7 @@
-ghost use Rattle.std.specs.Prelude.{◌≡◌, ◌↔◌, codes, IsTrue, IfSome, map, string_bytes};
+ghost use Rattle.std.specs.Prelude.{◌≡◌, ◌↔◌, codes, IsTrue, IfSome, IfNone, map, string_bytes};
 ghost use Rattle.causal_base.specs.Fields.{IsIdInRange};
-ghost use Rattle.poet_top.specs.Ask.{AreAskWords};
+ghost use Rattle.causal_base.specs.declared.event_id.EventId.{EventId};
+ghost use Rattle.poet_top.specs.Words.{AreAskWords, AreNoPlan};
 
 use causal_base::{EventId, id_of};
 
@@ -18,7 +19,8 @@ pub struct Plan<'a> {
 
 /// The plan that the words are, or none.
 pub fn plan_of(words: &[String]) -> Option<Plan<'_>>
-    ensures { IfSome result (λ plan. AreAskWords (map string_bytes words.now) plan.name.now plan.a plan.b) }
+    ensures some { IfSome result (λ plan. AreAskWords (map string_bytes words.now) plan.name.now plan.a plan.b) }
+    ensures none { IfNone result (AreNoPlan (map string_bytes words.now)) }
 {
     let [command, name, a, b] = words else {
         return None;
@@ -44,7 +46,8 @@ fn is_ask(word: &str) -> bool
 
 /// The event that a word names.
 fn id_word(word: &str) -> Option<EventId>
-    ensures { IfSome result (IsIdInRange word.now 256) }
+    ensures some { IfSome result (IsIdInRange word.now 256) }
+    ensures none { IfNone result ((id : EventId) → IsIdInRange word.now 256 id → ⊥) }
 {
     id_of(word.as_bytes(), MOST_TRACES).ok()
 }

@@ -1,7 +1,7 @@
 //! Tests of what no clause says: that calls succeed where memory is left, the texts and statuses, and answers that
 //! were worked out by hand.
 
-ghost use Rattle.std.specs.Prelude.{◌≡◌, IfOk};
+ghost use Rattle.std.specs.Prelude.{◌≡◌, ◌<◌, IfOk};
 
 use crate::ask::offer_all;
 use crate::fault::Fault;
@@ -26,123 +26,182 @@ fn words_from(alloc: Global, words: &[&str]) -> Result<Vec<String>, AllocError> 
     Ok(owned)
 }
 
-/// The status and the text for these words, over a folder with the file `e.txt`.
+/// The status and the text for these words, over a folder with the file `e.txt`, whose reads with the numbers of
+/// `fail_reads` fail. The sink takes `most` bytes a call, and its calls with the numbers of `fail_writes` fail.
 fn run(
     alloc: Global,
     words: &[&str],
     text: &[u8],
     fail_reads: &[u64],
+    most: usize,
     fail_writes: &[u64],
-) -> Result<(u8, MemSink), AllocError> {
+) -> Result<(u8, MemSink), AllocError>
+    requires { 0 < most }
+{
     let words = words_from(alloc, words)?;
     let mut files = MemFolder::new(alloc);
     files.add("e.txt", text, fail_reads)?;
     files.fail_open("closed.txt")?;
-    let mut out = MemSink::new(alloc, Vec::from_slice(alloc, fail_writes)?, ROOM, ROOM)?;
+    let mut out = MemSink::new(alloc, Vec::from_slice(alloc, fail_writes)?, most, ROOM)?;
     let status = poet_still(alloc, &words, &mut files, &mut out);
     Ok((status, out))
 }
 
+/// One message.
+const MESSAGE: &str = "0.1 s - 5\n1.1 r 0.1 6\n";
+
+/// Partners, and an event before one of them.
+const PARTNERS: &str = "0.1 u - 1\n0.2 y 2.1 2\n2.1 y 0.2 3\n";
+
+/// A line that no event is spelled like.
+const DAMAGED: &str = "0.1 s - 5\n1.1 r 0.1 6";
+
+/// Words, the text of the file `e.txt`, and the status and the text that come.
+const ASKED: [(&[&str], &str, u8, &str); 24] = [
+    (&["ask", "e.txt", "0.1", "1.1"], MESSAGE, 0, "yes\n"),
+    (&["ask", "e.txt", "0.1", "2.1"], MESSAGE, 0, "notyet 2.1\n"),
+    (&["ask", "e.txt", "0.1", "0.1"], MESSAGE, 0, "no\n"),
+    (&["ask", "e.txt", "1.1", "0.1"], MESSAGE, 0, "no\n"),
+    (
+        &["ask", "e.txt", "255.1000000", "2.1"],
+        MESSAGE,
+        0,
+        "notyet 255.1000000\n",
+    ),
+    (&["ask", "e.txt", "0.1", "1.1"], "", 0, "notyet 0.1\n"),
+    // Partners, and halves that don't name each other.
+    (
+        &["ask", "e.txt", "0.1", "1.1"],
+        "0.1 y 1.1 0\n1.1 y 0.1 0\n",
+        0,
+        "no\n",
+    ),
+    (&["ask", "e.txt", "0.1", "2.1"], PARTNERS, 0, "yes\n"),
+    (&["ask", "e.txt", "0.2", "2.1"], PARTNERS, 0, "no\n"),
+    (&["ask", "e.txt", "2.1", "0.2"], PARTNERS, 0, "no\n"),
+    (
+        &["ask", "e.txt", "0.1", "1.1"],
+        "0.1 y 2.1 1\n2.1 y 1.1 2\n",
+        0,
+        "notyet 0.1\n",
+    ),
+    // Words that are no plan.
+    (&["ask", "e.txt", "0.1", "x"], MESSAGE, 1, "poet: words\n"),
+    (
+        &["ask", "e.txt", "0.1", "256.1"],
+        MESSAGE,
+        1,
+        "poet: words\n",
+    ),
+    (
+        &["ask", "e.txt", "0.1000001", "1.1"],
+        MESSAGE,
+        1,
+        "poet: words\n",
+    ),
+    (&["ask", "e.txt", "0.0", "1.1"], MESSAGE, 1, "poet: words\n"),
+    (&["ask", "e.txt", "0.1"], MESSAGE, 1, "poet: words\n"),
+    (
+        &["ask", "e.txt", "0.1", "1.1", "1.1"],
+        MESSAGE,
+        1,
+        "poet: words\n",
+    ),
+    (
+        &["tell", "e.txt", "0.1", "1.1"],
+        MESSAGE,
+        1,
+        "poet: words\n",
+    ),
+    (&[], MESSAGE, 1, "poet: words\n"),
+    // A file that is absent, one that doesn't open, and files that aren't lines of events.
+    (
+        &["ask", "absent.txt", "0.1", "1.1"],
+        MESSAGE,
+        2,
+        "poet: open absent.txt\n",
+    ),
+    (
+        &["ask", "closed.txt", "0.1", "1.1"],
+        MESSAGE,
+        2,
+        "poet: open closed.txt\n",
+    ),
+    (&["ask", "e.txt", "0.1", "1.1"], DAMAGED, 6, "poet: line\n"),
+    (&["ask", "e.txt", "0.1", "1.1"], ".\n", 6, "poet: line\n"),
+    (&["ask", "e.txt", "0.1", "1.1"], "\n", 6, "poet: line\n"),
+];
+
 #[test]
 fn asks_over_a_file(rt: HostRuntime) -> Result<(), Fail> {
-    let message = b"0.1 s - 5\n1.1 r 0.1 6\n".as_slice();
-    let pair = b"0.1 u - 1\n0.2 y 2.1 2\n2.1 y 0.2 3\n".as_slice();
-    let rows: [(&[&str], &[u8], u8, &[u8]); 21] = [
-        (&["ask", "e.txt", "0.1", "1.1"], message, 0, b"yes\n"),
-        (&["ask", "e.txt", "0.1", "2.1"], message, 0, b"notyet 2.1\n"),
-        (&["ask", "e.txt", "0.1", "0.1"], message, 0, b"no\n"),
-        (&["ask", "e.txt", "1.1", "0.1"], message, 0, b"no\n"),
-        (
-            &["ask", "e.txt", "255.1000000", "2.1"],
-            message,
-            0,
-            b"notyet 255.1000000\n",
-        ),
-        (&["ask", "e.txt", "0.1", "1.1"], b"", 0, b"notyet 0.1\n"),
-        (
-            &["ask", "e.txt", "0.1", "1.1"],
-            b"0.1 y 1.1 0\n1.1 y 0.1 0\n",
-            0,
-            b"no\n",
-        ),
-        (&["ask", "e.txt", "0.1", "2.1"], pair, 0, b"yes\n"),
-        (&["ask", "e.txt", "0.2", "2.1"], pair, 0, b"no\n"),
-        (&["ask", "e.txt", "2.1", "0.2"], pair, 0, b"no\n"),
-        (
-            &["ask", "e.txt", "0.1", "1.1"],
-            b"0.1 y 2.1 1\n2.1 y 1.1 2\n",
-            0,
-            b"notyet 0.1\n",
-        ),
-        (&["ask", "e.txt", "0.1", "x"], message, 1, b"poet: words\n"),
-        (
-            &["ask", "e.txt", "0.1", "256.1"],
-            message,
-            1,
-            b"poet: words\n",
-        ),
-        (
-            &["ask", "e.txt", "0.0", "1.1"],
-            message,
-            1,
-            b"poet: words\n",
-        ),
-        (&["ask", "e.txt", "0.1"], message, 1, b"poet: words\n"),
-        (
-            &["ask", "e.txt", "0.1", "1.1", "1.1"],
-            message,
-            1,
-            b"poet: words\n",
-        ),
-        (
-            &["tell", "e.txt", "0.1", "1.1"],
-            message,
-            1,
-            b"poet: words\n",
-        ),
-        (&[], message, 1, b"poet: words\n"),
-        (
-            &["ask", "absent.txt", "0.1", "1.1"],
-            message,
-            2,
-            b"poet: open absent.txt\n",
-        ),
-        (
-            &["ask", "closed.txt", "0.1", "1.1"],
-            message,
-            2,
-            b"poet: open closed.txt\n",
-        ),
-        (
-            &["ask", "e.txt", "0.1", "1.1"],
-            b"0.1 s - 5\n1.1 r 0.1 6",
-            6,
-            b"poet: line\n",
-        ),
-    ];
-    for (words, text, status, written) in rows {
-        let (answered, out) = run(rt.alloc(), words, text, &[], &[])?;
-        assert_eq!(rt; answered, status, "{words:?}");
-        assert_eq!(rt; out.bytes(), written, "{words:?}");
+    for (words, text, status, written) in ASKED {
+        for most in [1, ROOM] {
+            assert!(rt; most > 0);
+            let (answered, out) = run(rt.alloc(), words, text.as_bytes(), &[], most, &[])?;
+            assert_eq!(rt; answered, status, "{words:?}");
+            assert_eq!(rt; out.bytes(), written.as_bytes(), "{words:?}");
+        }
     }
     Ok(())
 }
 
 #[test]
-fn devices_fail(rt: HostRuntime) -> Result<(), Fail> {
+fn reads_fail(rt: HostRuntime) -> Result<(), Fail> {
     let alloc = rt.alloc();
-    let words = ["ask", "e.txt", "0.1", "1.1"];
-    for read in [1, 2] {
-        let (status, out) = run(alloc, &words, b"0.1 u - 0\n", &[read], &[])?;
-        assert_eq!(rt; status, 2);
-        assert_eq!(rt; out.bytes(), b"poet: read e.txt\n".as_slice());
+    let words = ["ask", "e.txt", "0.1", "0.1"];
+    let long = text_of_repeats(alloc, 600)?;
+    let cases: [(&[u8], u64, bool); 7] = [
+        (b"0.1 u - 0\n", 1, true),
+        (b"0.1 u - 0\n", 2, true),
+        (b"0.1 u - 0\n", 3, false),
+        (&long, 1, true),
+        (&long, 2, true),
+        (&long, 3, true),
+        (&long, 4, false),
+    ];
+    for (text, read, fails) in cases {
+        let (status, out) = run(alloc, &words, text, &[read], ROOM, &[])?;
+        let (told, written) = if fails {
+            (2, "poet: read e.txt\n")
+        } else {
+            (0, "no\n")
+        };
+        assert_eq!(rt; status, told, "at read {read}");
+        assert_eq!(rt; out.bytes(), written.as_bytes(), "at read {read}");
     }
-    let (status, out) = run(alloc, &words, b"", &[], &[1])?;
-    assert_eq!(rt; status, 3);
-    assert_eq!(rt; out.bytes(), b"".as_slice());
-    let (status, out) = run(alloc, &words, b"", &[], &[3])?;
-    assert_eq!(rt; status, 3);
-    assert_eq!(rt; out.bytes(), b"notyet 0".as_slice());
+    Ok(())
+}
+
+#[test]
+fn writes_fail(rt: HostRuntime) -> Result<(), Fail> {
+    for (words, text, status, written) in ASKED {
+        let all = written.as_bytes();
+        let mut call = 1u64;
+        for taken in 0..all.len() {
+            let (answered, out) = run(rt.alloc(), words, text.as_bytes(), &[], 1, &[call])?;
+            assert_eq!(rt; answered, 3, "at write {call}");
+            assert_eq!(rt; out.bytes(), &all[..taken], "at write {call}");
+            call = call.saturating_add(1);
+        }
+        let (answered, _) = run(rt.alloc(), words, text.as_bytes(), &[], 1, &[call])?;
+        assert_eq!(rt; answered, status, "past the last write");
+    }
+    Ok(())
+}
+
+/// With each request for memory refused in turn, the text of the answer comes or `poet: memory`. Where the test
+/// itself gets no memory, it has nothing to say.
+#[test]
+fn memory_runs_out(rt: HostRuntime) -> Result<(), Fail> {
+    let words = ["ask", "e.txt", "0.1", "1.1"];
+    if let Ok((status, out)) = run(rt.alloc(), &words, MESSAGE.as_bytes(), &[], ROOM, &[]) {
+        let written: &[u8] = match status {
+            0 => b"yes\n",
+            _ => b"poet: memory\n",
+        };
+        assert!(rt; status == 0 || status == 7);
+        assert_eq!(rt; out.bytes(), written);
+    }
     Ok(())
 }
 
@@ -159,20 +218,19 @@ fn text_of_repeats(alloc: Global, lines: usize) -> Result<Vec<u8>, AllocError> {
 fn limits_hold(rt: HostRuntime) -> Result<(), Fail> {
     let alloc = rt.alloc();
     let words = ["ask", "e.txt", "0.1", "0.1"];
-    let mut text = text_of_repeats(alloc, 6552)?;
-    text.extend_from_slice(b"0.1 u - 0 text\n")?;
-    text.push(b'0')?;
-    assert_eq!(rt; text.len(), 65_536);
-    let (status, _) = run(alloc, &words, &text, &[], &[])?;
-    assert_eq!(rt; status, 6, "an unended line at the limit");
-    let ended = text_of_repeats(alloc, 6553)?;
-    let (status, out) = run(alloc, &words, &ended, &[], &[])?;
-    assert_eq!(rt; status, 0);
-    assert_eq!(rt; out.bytes(), b"no\n".as_slice());
-    let longer = text_of_repeats(alloc, 6554)?;
-    let (status, out) = run(alloc, &words, &longer, &[], &[])?;
-    assert_eq!(rt; status, 6);
-    assert_eq!(rt; out.bytes(), b"poet: line\n".as_slice());
+    let cases: [(&str, usize, u8, &str); 3] = [
+        ("0.1 u - 0 texts\n", 65_536, 0, "no\n"),
+        ("0.1 u - 0 longer\n", 65_537, 6, "poet: line\n"),
+        ("0.1 u - 0 text\n0", 65_536, 6, "poet: line\n"),
+    ];
+    for (last, size, told, written) in cases {
+        let mut text = text_of_repeats(alloc, 6552)?;
+        text.extend_from_slice(last.as_bytes())?;
+        assert_eq!(rt; text.len(), size);
+        let (status, out) = run(alloc, &words, &text, &[], ROOM, &[])?;
+        assert_eq!(rt; status, told, "{last}");
+        assert_eq!(rt; out.bytes(), written.as_bytes(), "{last}");
+    }
     Ok(())
 }
 

@@ -1,13 +1,18 @@
-ghost use Rattle.std.specs.Prelude.{◌≡◌, ◌≢◌, ℕ, List, map, string_bytes, IfSome};
-ghost use Rattle.poet_io.specs.Grows.{Grows};
-ghost use Rattle.poet_top.specs.Ask.{IsAskText};
+ghost use Rattle.std.specs.Prelude.{◌⊎◌, map, string_bytes};
+ghost use Rattle.poet_top.specs.Ends.{Ends};
+ghost use Rattle.poet_top.specs.FaultOutcome.{outcome_of_fault};
+ghost use Rattle.poet_top.specs.Outcome.{Outcome, Answered, IsWritten, IsCutShort};
 
 use crate::answer::put_answer;
 use crate::ask::ask;
 use crate::fault::Fault;
 use crate::plan::plan_of;
+use causal_base::Answer;
 use poet_io::{Files, Sink};
 use std::alloc::Global;
+
+/// The status where the answer was written.
+const ANSWERED: u8 = 0;
 
 /// The status where a write failed.
 const WRITE_FAILED: u8 = 3;
@@ -26,28 +31,52 @@ pub fn poet_still<F: Files, K: Sink>(
     files: &mut F,
     out: &mut K,
 ) -> u8
-    // Where the status is 0, what was written is the answer that plain happened-before gives.
-    ensures answered { result ≡ 0 → IfSome (F.folder files.old) (λ folder. (text : List ℕ)
-        × IsAskText (map string_bytes words.now) folder text × Grows (K.taken out.old) (K.taken out.new) text) }
+    // The words have this outcome over the folder, and its text was written, or a front of it.
+    ensures ends { (outcome : Outcome)
+        × Ends (map string_bytes words.now)
+        (record { faults = F.faults files.old; folder = F.folder files.old; uses = F.uses files.old })
+        (record { faults = F.faults files.new; folder = F.folder files.new; uses = F.uses files.new })
+        outcome
+        × (IsWritten outcome result
+        (record { faults = K.faults out.old; taken = K.taken out.old })
+        (record { faults = K.faults out.new; taken = K.taken out.new })
+        ⊎ IsCutShort outcome result
+        (record { faults = K.faults out.old; taken = K.taken out.old })
+        (record { faults = K.faults out.new; taken = K.taken out.new })) }
 {
     let Some(plan) = plan_of(words) else {
         return refuse(&Fault::Words, out);
     };
     match ask(alloc, &plan, files) {
-        Ok(answer) => {
-            if put_answer(out, answer).is_ok() {
-                0
-            } else {
-                WRITE_FAILED
-            }
-        }
+        Ok(answer) => tell(answer, out),
         Err(fault) => refuse(&fault, out),
+    }
+}
+
+/// Writes the answer, and answers the status.
+fn tell<K: Sink>(answer: Answer<bool>, out: &mut K) -> u8
+    ensures { IsWritten (Answered answer) result
+        (record { faults = K.faults out.old; taken = K.taken out.old })
+        (record { faults = K.faults out.new; taken = K.taken out.new })
+        ⊎ IsCutShort (Answered answer) result
+        (record { faults = K.faults out.old; taken = K.taken out.old })
+        (record { faults = K.faults out.new; taken = K.taken out.new }) }
+{
+    if put_answer(out, answer).is_ok() {
+        ANSWERED
+    } else {
+        WRITE_FAILED
     }
 }
 
 /// Writes why there is no answer, and answers the status.
 fn refuse<K: Sink>(fault: &Fault<'_>, out: &mut K) -> u8
-    ensures { result ≢ 0 }
+    ensures { IsWritten (outcome_of_fault fault.now) result
+        (record { faults = K.faults out.old; taken = K.taken out.old })
+        (record { faults = K.faults out.new; taken = K.taken out.new })
+        ⊎ IsCutShort (outcome_of_fault fault.now) result
+        (record { faults = K.faults out.old; taken = K.taken out.old })
+        (record { faults = K.faults out.new; taken = K.taken out.new }) }
 {
     if fault.put(out).is_ok() {
         fault.status()

@@ -1,0 +1,16 @@
+use Rattle.std.proofs.Common.{◌≡◌, Option, Some, None, Result, Ok, Err, sym, subst}
+use Rattle.std.specs.Prelude.{OnErr, IfErr, IfNone, IsErrAnd}
+
+-- what holds, holds at an error, and at none
+pub on_err : {T E P : Type 0} (result : Result T E) → P → OnErr result P
+on_err (Ok value) holds = tt
+on_err (Err error) holds = holds
+
+pub if_none : {T P : Type 0} (result : Option T) → P → IfNone result P
+if_none None holds = holds
+if_none (Some value) holds = tt
+
+-- what holds of a value holds of the error that is this value
+pub if_err_from : {T E : Type 0} (P : E → Type 0) (result : Result T E) (value : E) → IsErrAnd result (λ error. error ≡ value) → P value → IfErr result P
+if_err_from P (Ok other) value is holds = tt
+if_err_from P (Err error) value is holds = subst P (sym is) holds

@@ -1,22 +1,16 @@
-use Rattle.std.proofs.Common.{◌≡◌, ℕ, ◌<◌, ◌≤◌, List, [], ◌∷◌, ◌++◌, length, All, Contains, Option, None, Some, IsSome, ◌↔◌, IfErr, Result, Ok, Err, refl, ◌∙◌, ap, subst, inl, inr, lit≤, arith}
+use Rattle.std.proofs.Common.{◌≡◌, ℕ, ◌<◌, List, [], ◌∷◌, ◌++◌, length, All, Contains, Some, refl, ◌∙◌, inl, inr, lit≤}
 use Rattle.std.specs.Prelude.{decimal}
-use Rattle.std.specs.Result.{result_ok}
 use Rattle.std.proofs.lemmas.List.Elements.{All-append, All-cons, All-nil, All-contains}
 use Rattle.std.proofs.lemmas.List.{get_or_default}
 use Rattle.std.proofs.lemmas.Option.{slice_get_cases}
 use Rattle.causal_base.specs.declared.event.Event.{Event}
-use Rattle.causal_base.specs.declared.event_id.EventId.{EventId}
-use Rattle.causal_base.specs.declared.fields.IdFault.{IdFault}
 use Rattle.causal_base.specs.declared.kind.Kind.{Kind}
-use Rattle.causal_base.specs.Event.{IsFit, IsInRange, NamesAnother}
-use Rattle.causal_base.specs.Fields.{HasIdFault}
+use Rattle.causal_base.specs.Event.{IsFit}
 use Rattle.causal_base.specs.Spelling.{id_text, mate_text, name_of, spelling, text_part}
 use Rattle.causal_base.specs.Types.{TypeTable, kind_of}
 use Rattle.causal_base.specs.TypeTables.{IsTypeTable}
-use Rattle.causal_base.proofs.IdTexts.{fault_excludes}
-use Rattle.raw_reader.specs.Parts.{IsMate, IsOneLine}
+use Rattle.raw_reader.specs.Parts.{IsOneLine}
 use Rattle.raw_reader.specs.Splits.{IsSplit}
-use Rattle.raw_reader.proofs.Splitting.{SameFields, split_once}
 use Rattle.raw_reader.proofs.Visible.{IsVisible, decimal_visible, id_visible, mate_visible, name_visible, visible_lacks}
 
 -- a number that has a kind is that of a type
@@ -41,12 +35,6 @@ spelling_is_split types line e table fit spelled = record {
   mate_one_word = visible_lacks 32 _ (lit≤ tt) (mate_visible types e.mate table.most_traces fit.mate_in_range);
   time_one_word = visible_lacks 32 _ (lit≤ tt) (decimal_visible e.time fit.time);
 }
-
--- so a line that spells it is split into those
-pub fields_spell : (types : TypeTable) (line : List ℕ) (e : Event) (id name mate time text : List ℕ) → IsTypeTable types → IsFit types e → line ≡ spelling types e → IsSplit line id name mate time text →
-    SameFields id name mate time text (id_text e.id) (name_of types e.type_no) (mate_text e.mate) (decimal e.time) e.text
-fields_spell types line e id name mate time text table fit spelled split =
-    split_once line id name mate time text _ _ _ _ _ split (spelling_is_split types line e table fit spelled)
 
 -- bytes that don't contain a byte have none that equals it
 pub none_equal : (c : ℕ) (bytes : List ℕ) → (Contains bytes c → ⊥) → All (λ b. b ≡ c → ⊥) bytes
@@ -73,29 +61,3 @@ spelling_lacks_line_feed types e table fit =
 
 pub spelling_one_line : (types : TypeTable) (e : Event) → IsTypeTable types → IsFit types e → IsOneLine (spelling types e)
 spelling_one_line types e table fit has = All-contains (λ b. b ≡ 10 → ⊥) (spelling types e) 10 (spelling_lacks_line_feed types e table fit) has refl
-
--- an id in range is found in its text
-pub no_fault : (types : TypeTable) (traces : ℕ) (bytes : List ℕ) (id : EventId) (found : Result EventId IdFault) → IsTypeTable types → traces ≡ types.traces →
-    None ≡ result_ok found → IfErr found (HasIdFault bytes traces) → IsInRange types id → bytes ≡ id_text id → ⊥
-no_fault types traces bytes id (Ok other) table same none fault range spelled = cc
-no_fault types traces bytes id (Err e) table same none fault range spelled =
-    let most : types.traces ≤ 256 = table.most_traces in
-    fault_excludes bytes traces id e (record {
-      is_id = record { small_trace = omega (arith, range.trace); small_number = omega (arith, range.most); spelled = spelled };
-      trace = omega (arith, range.trace);
-      least = range.least;
-      most = range.most;
-    }) fault
-
--- so is a mate, where the kind names another event
-pub no_mate_fault : (types : TypeTable) (traces : ℕ) (bytes : List ℕ) (kind : Kind) (found : Result EventId IdFault) → IsTypeTable types → traces ≡ types.traces →
-    None ≡ result_ok found → IfErr found (HasIdFault bytes traces) → NamesAnother kind → (mate : Option EventId) → IsMate types kind mate → bytes ≡ mate_text mate → ⊥
-no_mate_fault types traces bytes kind found table same none fault names None suits spelled = let some = suits.named.1 names in cc
-no_mate_fault types traces bytes kind found table same none fault names (Some id) suits spelled =
-    no_fault types traces bytes id found table same none fault suits.in_range spelled
-
--- what a fit event names suits the kind of its type
-pub mate_suits : (types : TypeTable) (e : Event) (type_no : ℕ) (kind : Kind) → IsFit types e → e.type_no ≡ type_no → kind_of types type_no ≡ Some kind → IsMate types kind e.mate
-mate_suits types e type_no kind fit same has =
-    let kinds : fit.kind ≡ kind = cc (fit.is_of_kind, ap (kind_of types) same, has) in
-    record { named = subst (λ k. IsSome e.mate ↔ NamesAnother k) kinds fit.mate; in_range = fit.mate_in_range }

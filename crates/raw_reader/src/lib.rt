@@ -1,9 +1,15 @@
 //! Reads events from lines of text: the one spelling of an event, and nothing else, is taken.
 #![tactic(auto)]
 
+pub use batch::Batch;
+pub use cause::{LineCause, LineError};
+pub use event::event_of;
 pub use lines::{Events, read_lines};
-pub use reader::event_of;
+pub use reader::Reader;
 
+mod batch;
+mod cause;
+mod event;
 mod lines;
 mod parts;
 mod reader;

@@ -4,7 +4,7 @@ ghost use Rattle.causal_base.specs.declared.event.Event.{Event};
 ghost use Rattle.causal_base.specs.Event.{IsFit};
 ghost use Rattle.raw_reader.specs.Lines.{text_of};
 
-use crate::reader::event_of;
+use crate::event::event_of;
 use causal_base::{Event, Items, Types, cut};
 use std::alloc::{AllocError, Global};
 

@@ -1,13 +1,14 @@
-ghost use Rattle.std.specs.Prelude.{◌≡◌, ◌↔◌, IsTrue, Option, IfSome, IfNone};
-ghost use Rattle.causal_base.specs.declared.event.Event.{Event};
-ghost use Rattle.causal_base.specs.declared.event_id.EventId.{EventId};
+ghost use Rattle.std.specs.Prelude.{◌≡◌, ◌≢◌, ◌↔◌, [], codes, IsTrue, IsSome, IfSome, IfNone, IfOk, IfErr};
 ghost use Rattle.causal_base.specs.Event.{IsFit, NamesAnother};
-ghost use Rattle.causal_base.specs.Spelling.{mate_text, spelling};
+ghost use Rattle.causal_base.specs.Fields.{IsIdInRange};
+ghost use Rattle.causal_base.specs.Spelling.{spelling};
 ghost use Rattle.causal_base.specs.TypeTables.{IsTypeTable};
-ghost use Rattle.raw_reader.specs.Parts.{IsMate, IsText, event_from};
+ghost use Rattle.raw_reader.specs.Causes.{id_cause, id_faults, mate_faults, IsFirst, IsCause};
+ghost use Rattle.raw_reader.specs.Parts.{IsOneLine, event_from};
 
-use crate::split::split_line;
-use causal_base::{EventId, Kind, Types, id_of, number_of};
+use crate::cause::LineCause;
+use crate::split::{Split, split_line};
+use causal_base::{EventId, IdFault, Kind, Types, id_of, number_of};
 
 /// What a line says of an event, with the text where the line has it.
 #[derive(Drop)]
@@ -19,24 +20,33 @@ pub struct Parts<'a> {
     pub text: &'a [u8],
 }
 
-/// What the line says, or none where it isn't the spelling of a fit event.
-pub fn parts_of<'a>(line: &'a [u8], types: &Types) -> Option<Parts<'a>>
-    ensures fit { IfSome result (λ parts. IsFit types.now (event_from parts)) }
-    ensures spelled { IfSome result (λ parts. line.now ≡ spelling types.now (event_from parts)) }
-    ensures none { IfNone result ((e : Event) →
-        IsFit types.now e → line.now ≡ spelling types.now e → ⊥) }
+/// What the line says, or the first thing that is wrong with it where it isn't the spelling of a fit event.
+pub fn parts_of<'a>(line: &'a [u8], types: &Types) -> Result<Parts<'a>, LineCause>
+    requires { IsOneLine line.now }
+    ensures fit { IfOk result (λ parts. IsFit types.now (event_from parts)) }
+    ensures spelled { IfOk result (λ parts. line.now ≡ spelling types.now (event_from parts)) }
+    ensures err { IfErr result (IsCause types.now line.now) }
     ensures table { IsTypeTable types.now }
 {
     let traces = types.traces();
-    let split = split_line(line)?;
-    let id = id_of(split.id, traces).ok()?;
-    let type_no = types.type_of(split.name)?;
-    let mate = mate_of_field(split.mate, types.kind(type_no), types)?;
-    let time = number_of(split.time)?;
-    if !is_text(split.text) {
-        return None;
+    let Some(split) = split_line(line) else {
+        return Err(LineCause::Shape);
+    };
+    if !has_four(&split) {
+        return Err(LineCause::Shape);
     }
-    Some(Parts {
+    let id = id_field(split.id, traces)?;
+    let Some(type_no) = types.type_of(split.name) else {
+        return Err(LineCause::NoType);
+    };
+    let mate = mate_field(split.mate, types.kind(type_no), traces)?;
+    let Some(time) = number_of(split.time) else {
+        return Err(LineCause::BadTime);
+    };
+    if split.text.len() > 200 {
+        return Err(LineCause::LongText);
+    }
+    Ok(Parts {
         id,
         type_no,
         mate,
@@ -45,21 +55,52 @@ pub fn parts_of<'a>(line: &'a [u8], types: &Types) -> Option<Parts<'a>>
     })
 }
 
-/// What an event of this kind names, or none where the field doesn't say that: `-` where it names no other, and
-/// else an id in range.
-fn mate_of_field(field: &[u8], kind: Kind, types: &Types) -> Option<Option<EventId>>
-    ensures found { IfSome result (λ mate. IsMate types.now kind mate) }
-    ensures spelled { IfSome result (λ mate. field.now ≡ mate_text mate) }
-    ensures none { IfNone result ((mate : Option EventId) →
-        IsMate types.now kind mate → field.now ≡ mate_text mate → ⊥) }
+/// Whether none of the four fields is empty.
+fn has_four(split: &Split<'_>) -> bool
+    ensures { IsTrue result ↔ ((split.now.id.now ≢ []) × (split.now.name.now ≢ []) × (split.now.mate.now ≢ []) × (split.now.time.now ≢ [])) }
 {
-    if names_another(kind) {
-        let id = id_of(field, types.traces()).ok()?;
-        Some(Some(id))
-    } else if field == b"-".as_slice() {
-        Some(None)
-    } else {
-        None
+    !split.id.is_empty()
+        && !split.name.is_empty()
+        && !split.mate.is_empty()
+        && !split.time.is_empty()
+}
+
+/// The id that a field is, or its first fault.
+fn id_field(field: &[u8], traces: u32) -> Result<EventId, LineCause>
+    ensures ok { IfOk result (IsIdInRange field.now traces) }
+    ensures err { IfErr result (IsFirst (id_faults traces field.now)) }
+{
+    match id_of(field, traces) {
+        Ok(id) => Ok(id),
+        Err(fault) => Err(cause_of_id(fault)),
+    }
+}
+
+/// The cause where an id has this fault.
+fn cause_of_id(fault: IdFault) -> LineCause
+    ensures { result ≡ id_cause fault }
+{
+    match fault {
+        IdFault::BadId => LineCause::BadId,
+        IdFault::NoTrace => LineCause::NoTrace,
+        IdFault::BadNumber => LineCause::BadNumber,
+    }
+}
+
+/// What an event of this kind names, or the first fault of the field: it is `-` where the kind names no other, and else
+/// an id in range.
+fn mate_field(field: &[u8], kind: Kind, traces: u32) -> Result<Option<EventId>, LineCause>
+    ensures found { IfOk result (λ mate. IsSome mate ↔ NamesAnother kind) }
+    ensures in_range { IfOk result (λ mate. IfSome mate (IsIdInRange field.now traces)) }
+    ensures dash { IfOk result (λ mate. IfNone mate (field.now ≡ codes "-")) }
+    ensures err { IfErr result (IsFirst (mate_faults traces kind field.now)) }
+{
+    let is_dash = field == b"-".as_slice();
+    match (names_another(kind), is_dash) {
+        (true, true) => Err(LineCause::MateMissing),
+        (true, false) => Ok(Some(id_field(field, traces)?)),
+        (false, true) => Ok(None),
+        (false, false) => Err(LineCause::MateGiven),
     }
 }
 
@@ -68,11 +109,4 @@ fn names_another(kind: Kind) -> bool
     ensures { IsTrue result ↔ NamesAnother kind }
 {
     matches!(kind, Kind::Receive | Kind::Sync | Kind::Watch)
-}
-
-/// Whether an event may have this text: at most 200 bytes, none of them a line feed.
-fn is_text(bytes: &[u8]) -> bool
-    ensures { IsTrue result ↔ IsText bytes.now }
-{
-    bytes.len() <= 200 && !bytes.contains(&b'\n')
 }

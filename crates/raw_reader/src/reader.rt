@@ -1,32 +1,254 @@
-ghost use Rattle.std.specs.Prelude.{◌≡◌, IfOk, IfSome, IfNone};
+ghost use Rattle.std.specs.Prelude.{◌≡◌, ◌≢◌, ◌⊎◌, ◌+◌, ◌<◌, ◌≤◌, ◌++◌, ◌∷◌, [], codes, length, ℕ, List, None, Some, IfSome, IfNone, IfOk, IfErr, OnOk, OnErr};
 ghost use Rattle.causal_base.specs.declared.event.Event.{Event};
 ghost use Rattle.causal_base.specs.Event.{IsFit};
 ghost use Rattle.causal_base.specs.Spelling.{spelling};
-ghost use Rattle.raw_reader.specs.Parts.{IsOneLine};
+ghost use Rattle.raw_reader.specs.Causes.{IsCause};
+ghost use Rattle.raw_reader.specs.declared.cause.LineError.{LineError};
+ghost use Rattle.raw_reader.specs.ReaderState.{StandsFor, StandsAtEnd};
+ghost use Rattle.raw_reader.specs.Texts.{most_text, most_in_batch, piece_of, batches_with, line_of};
 
+use crate::batch::Batch;
+use crate::cause::{LineCause, LineError};
+use crate::event::event_from_parts;
 use crate::parts::parts_of;
-use causal_base::{Event, Text, Types};
+use causal_base::{Event, Types};
 use std::alloc::{AllocError, Global};
+use std::collections::VecDeque;
+use std::marker::Model;
+use std::mem;
 
-/// The fit event that the line spells, without a line feed at its end. None where it is no spelling of a fit event.
-/// The only error is that memory ran out.
-///
-/// No fit event is spelled with a line feed, so a text of many lines may be cut at each.
-pub fn event_of(alloc: Global, line: &[u8], types: &Types) -> Result<Option<Event>, AllocError>
-    ensures fit { IfOk result (λ found. IfSome found (λ e.
-        IsFit types.now e × (line.now ≡ spelling types.now e))) }
-    ensures none { IfOk result (λ found. IfNone found ((e : Event) →
-        IsFit types.now e → line.now ≡ spelling types.now e → ⊥)) }
-    ensures one_line { (e : Event) → IsFit types.now e → IsOneLine (spelling types.now e) }
-{
-    let Some(parts) = parts_of(line, types) else {
-        return Ok(None);
-    };
-    Ok(Some(Event {
-        id: parts.id,
-        type_no: parts.type_no,
-        mate: parts.mate,
-        time: parts.time,
-        text: Text::new(alloc, parts.text)?,
-    }))
+/// How many bytes a text has at most.
+const MOST_TEXT: u64 = 1_073_741_824;
+
+/// How many bytes a line has at most.
+const MOST_LINE: usize = 400;
+
+/// How many events a batch has at most.
+const MOST_IN_BATCH: usize = 1_000;
+
+/// Reads events from text that comes in any pieces, and hands them out in batches. It keeps the line and the batch that
+/// are open, and the batches that wait.
+#[derive(Debug, Drop)]
+pub struct Reader<'a> {
+    alloc: Global,
+    types: &'a Types,
+    size: u64,
+    lines: u64,
+    line: Vec<u8>,
+    begun: Vec<Event>,
+    waiting: VecDeque<Batch>,
+    refusal: Option<LineError>,
+}
+
+impl<'a> Model for Reader<'a> {
+    ghost use Rattle.std.specs.Prelude.{◌≤◌, ◌<◌, length};
+    ghost use Rattle.raw_reader.specs.Parts.{IsOneLine};
+    ghost use Rattle.raw_reader.specs.ReaderState.{ReaderState};
+    ghost use Rattle.raw_reader.specs.Texts.{most_text, most_line, most_in_batch};
+
+    ghost Value = { ReaderState };
+
+    ghost view = { λ r. record {
+      types = r.types.now;
+      size = r.size;
+      lines = r.lines;
+      tail = r.line.items;
+      begun = r.begun.items;
+      waiting = r.waiting.items;
+      refusal = r.refusal;
+    } };
+
+    ghost invariant = { λ r. (r.lines ≤ r.size) × (r.size ≤ most_text) × (length r.line.items ≤ most_line) × IsOneLine r.line.items
+        × (length r.begun.items < most_in_batch) };
+}
+
+impl<'a> Reader<'a> {
+    /// A reader that was fed nothing.
+    pub fn new(alloc: Global, types: &'a Types) -> Reader<'a>
+        ensures empty { StandsFor result [] [] }
+        ensures types { result.types ≡ types.now }
+    {
+        Reader {
+            alloc,
+            types,
+            size: 0,
+            lines: 0,
+            line: Vec::new(alloc),
+            begun: Vec::new(alloc),
+            waiting: VecDeque::new(alloc),
+            refusal: None,
+        }
+    }
+
+    /// Takes the next piece of the text. It is refused from the first fault on, and once memory ran out: then a piece
+    /// changes nothing, and the refusal comes again.
+    pub fn feed(&mut self, piece: &[u8]) -> Result<(), LineError>
+        ensures types { self.new.types ≡ self.old.types }
+        ensures stands { (fed : List ℕ) (taken : List (List Event)) → StandsFor self.old fed taken
+            → StandsFor self.new (fed ++ piece.now) taken }
+        ensures again { (error : LineError) → self.old.refusal ≡ Some error → self.new ≡ self.old }
+        ensures ok { OnOk result (self.new.refusal ≡ None) }
+        ensures err { IfErr result (λ error. self.new.refusal ≡ Some error) }
+    {
+        for byte in piece {
+            self.take(*byte);
+        }
+        self.answer()
+    }
+
+    /// Takes the end of the text: it closes the batch that is begun, and is refused within a line. A refusal from before
+    /// comes again.
+    pub fn end(&mut self) -> Result<(), LineError>
+        ensures types { self.new.types ≡ self.old.types }
+        ensures stands { (fed : List ℕ) (taken : List (List Event)) → StandsFor self.old fed taken
+            → StandsAtEnd self.new fed taken }
+        ensures again { (error : LineError) → self.old.refusal ≡ Some error → self.new ≡ self.old }
+        ensures ok { OnOk result (self.new.refusal ≡ None) }
+        ensures err { IfErr result (λ error. self.new.refusal ≡ Some error) }
+    {
+        if self.refusal.is_none() {
+            self.end_text();
+        }
+        self.answer()
+    }
+
+    /// The refusal, if there was one.
+    fn answer(&self) -> Result<(), LineError>
+        ensures ok { OnOk result (self.now.refusal ≡ None) }
+        ensures err { IfErr result (λ error. self.now.refusal ≡ Some error) }
+    {
+        match self.refusal {
+            None => Ok(()),
+            Some(error) => Err(error),
+        }
+    }
+
+    /// Takes the end of the text where nothing was refused.
+    fn end_text(&mut self)
+        requires { self.old.refusal ≡ None }
+        ensures types { self.new.types ≡ self.old.types }
+        ensures stands { (fed : List ℕ) (taken : List (List Event)) → StandsFor self.old fed taken
+            → StandsAtEnd self.new fed taken }
+    {
+        if !self.line.is_empty() {
+            self.refuse(LineCause::Unended);
+        } else if self.add(None).is_err() {
+            self.refuse(LineCause::Oom);
+        }
+    }
+
+    /// The oldest batch that waits, if one does.
+    pub fn take_batch(&mut self) -> Option<Batch>
+        ensures some { IfSome result (λ batch. self.old.waiting ≡ batch ∷ self.new.waiting) }
+        ensures none { IfNone result (self.old.waiting ≡ []) }
+        ensures rest { self.new ≡ record self.old { waiting = self.new.waiting } }
+    {
+        self.waiting.pop_front()
+    }
+
+    /// Takes one byte, unless there was a refusal.
+    fn take(&mut self, byte: u8)
+        ensures types { self.new.types ≡ self.old.types }
+        ensures stands { (fed : List ℕ) (taken : List (List Event)) → StandsFor self.old fed taken
+            → StandsFor self.new (fed ++ byte ∷ []) taken }
+        ensures again { (error : LineError) → self.old.refusal ≡ Some error → self.new ≡ self.old }
+    {
+        if self.refusal.is_some() {
+            return;
+        }
+        if self.size == MOST_TEXT {
+            self.refuse(LineCause::TooLarge);
+        } else if byte == b'\n' {
+            self.end_line();
+        } else if self.line.len() == MOST_LINE {
+            self.refuse(LineCause::LongLine);
+        } else if self.line.push(byte).is_err() {
+            self.refuse(LineCause::Oom);
+        } else {
+            self.size += 1;
+        }
+    }
+
+    /// Takes the line feed that ends a line, and what the line says.
+    fn end_line(&mut self)
+        requires going { self.old.refusal ≡ None }
+        requires room { self.old.size < most_text }
+        ensures types { self.new.types ≡ self.old.types }
+        ensures stands { (fed : List ℕ) (taken : List (List Event)) → StandsFor self.old fed taken
+            → StandsFor self.new (fed ++ 10 ∷ []) taken }
+    {
+        match self.line_read() {
+            Ok(said) => {
+                if self.add(said).is_err() {
+                    self.refuse(LineCause::Oom);
+                } else {
+                    self.size += 1;
+                    self.lines += 1;
+                    self.line.clear();
+                }
+            }
+            Err(cause) => self.refuse(cause),
+        }
+    }
+
+    /// What the line says: an event, or none where it closes the batch.
+    fn line_read(&self) -> Result<Option<Event>, LineCause>
+        ensures some { IfOk result (λ said. IfSome said (λ e. IsFit self.now.types e × (self.now.tail ≡ spelling self.now.types e))) }
+        ensures none { IfOk result (λ said. IfNone said (self.now.tail ≡ codes ".")) }
+        ensures err { IfErr result (λ cause. (cause ≡ LineCause.Oom) ⊎ ((self.now.tail ≢ codes ".") × IsCause self.now.types self.now.tail cause)) }
+    {
+        if self.line.as_slice() == b".".as_slice() {
+            return Ok(None);
+        }
+        let parts = match parts_of(self.line.as_slice(), self.types) {
+            Ok(parts) => parts,
+            Err(cause) => return Err(cause),
+        };
+        match event_from_parts(self.alloc, &parts) {
+            Ok(event) => Ok(Some(event)),
+            Err(_) => Err(LineCause::Oom),
+        }
+    }
+
+    /// Adds an event to the batch that is begun, and closes it at its thousandth, or where there is none.
+    fn add(&mut self, said: Option<Event>) -> Result<(), AllocError>
+        ensures ok { OnOk result (record { closed = self.new.waiting; begun = self.new.begun }
+            ≡ batches_with (record { closed = self.old.waiting; begun = self.old.begun }) (line_of said)) }
+        ensures err { OnErr result (self.new.waiting ≡ self.old.waiting) }
+        ensures rest { self.new ≡ record self.old { waiting = self.new.waiting; begun = self.new.begun } }
+    {
+        let mut events = mem::replace(&mut self.begun, Vec::new(self.alloc));
+        if let Some(event) = said {
+            events.push(event)?;
+            if events.len() < MOST_IN_BATCH {
+                self.begun = events;
+                return Ok(());
+            }
+        }
+        self.close(events)
+    }
+
+    /// Hands out these events as a batch, if there are any.
+    fn close(&mut self, events: Vec<Event>) -> Result<(), AllocError>
+        requires { length events.items ≤ most_in_batch }
+        ensures ok { OnOk result (self.new ≡ record self.old { waiting = self.old.waiting ++ piece_of events.items }) }
+        ensures err { OnErr result (self.new ≡ self.old) }
+    {
+        if events.is_empty() {
+            return Ok(());
+        }
+        self.waiting.push_back(Batch::new(events))?;
+        Ok(())
+    }
+
+    /// Refuses the line from now on. The batch that is begun is lost.
+    fn refuse(&mut self, cause: LineCause)
+        ensures { self.new ≡ record self.old { begun = []; refusal = Some (record { line = self.old.lines + 1; cause = cause }) } }
+    {
+        self.begun.clear();
+        self.refusal = Some(LineError {
+            line: self.lines + 1,
+            cause,
+        });
+    }
 }

@@ -1,4 +1,6 @@
-use crate::{event_of, read_lines};
+ghost use Rattle.std.specs.Prelude.{◌<◌};
+
+use crate::{LineCause, LineError, Reader, event_of, read_lines};
 use causal_base::{Event, EventId, Types};
 use std::alloc::{AllocError, Global};
 use std::process::Abort;
@@ -120,5 +122,189 @@ fn reads_ended_lines(rt: HostRuntime) -> Result<(), Fail> {
             "{bytes:?}"
         );
     }
+    Ok(())
+}
+
+/// How many batches the texts of the tests have at most.
+const MOST_BATCHES: usize = 4;
+
+/// What a reader makes of a text: how many events each batch has, and the refusal.
+#[derive(Debug, Drop)]
+struct Outcome {
+    sizes: Vec<usize>,
+    error: Option<LineError>,
+}
+
+/// Feeds a text in pieces of so many bytes, after a first piece of `first` bytes.
+fn read_pieces(
+    alloc: Global,
+    types: &Types,
+    text: &[u8],
+    first: usize,
+    size: usize,
+) -> Result<Outcome, AllocError>
+    requires { 0 < size }
+{
+    let mut reader = Reader::new(alloc, types);
+    let mut sizes = Vec::new(alloc);
+    let first = first.min(text.len());
+    let mut fed = reader.feed(&text[..first]);
+    for piece in text[first..].chunks(size) {
+        let again = reader.feed(piece);
+        if fed.is_ok() {
+            fed = again;
+        }
+    }
+    let ended = reader.end();
+    for _ in 0..MOST_BATCHES {
+        if let Some(batch) = reader.take_batch() {
+            sizes.push(batch.as_slice().len())?;
+        }
+    }
+    let error = match (fed, ended) {
+        (Err(error), Err(other)) if error == other => Some(error),
+        (Ok(()), Err(error)) => Some(error),
+        _ => None,
+    };
+    Ok(Outcome { sizes, error })
+}
+
+/// So many lines of events of one trace, numbered from 1.
+fn lines_of_events(alloc: Global, count: u32) -> Result<Vec<u8>, AllocError> {
+    let mut text = Vec::new(alloc);
+    for number in 0..count {
+        let number = number.saturating_add(1);
+        text.extend_from_slice(format!(in alloc; "0.{number} u - 1\n")?.as_bytes())?;
+    }
+    Ok(text)
+}
+
+/// Texts with the sizes of their batches, and the line and the cause of their first fault.
+const TEXTS: [(&str, &[usize], Option<(u64, LineCause)>); 36] = [
+    ("", &[], None),
+    (".\n", &[], None),
+    (".\n.\n", &[], None),
+    ("0.1 u - 1\n", &[1], None),
+    ("0.1 u - 1\n.\n", &[1], None),
+    (
+        ".\n0.1 u - 1\n0.2 u - 1\n.\n.\n0.3 u - 1\n.\n",
+        &[2, 1],
+        None,
+    ),
+    ("0.1 u - 1\n.\n0.2 u - 1\n", &[1, 1], None),
+    // Each cause alone.
+    ("0.1 u - 1", &[], Some((1, LineCause::Unended))),
+    (".", &[], Some((1, LineCause::Unended))),
+    ("\n", &[], Some((1, LineCause::Shape))),
+    ("0.1 u -\n", &[], Some((1, LineCause::Shape))),
+    (" u - 1\n", &[], Some((1, LineCause::Shape))),
+    ("0.1  u - 1\n", &[], Some((1, LineCause::Shape))),
+    ("0.1 u - 1 \n", &[], Some((1, LineCause::Shape))),
+    ("x u - 1\n", &[], Some((1, LineCause::BadId))),
+    ("7.1 u - 1\n", &[], Some((1, LineCause::NoTrace))),
+    ("0.0 u - 1\n", &[], Some((1, LineCause::BadNumber))),
+    ("0.1 v - 1\n", &[], Some((1, LineCause::NoType))),
+    ("0.1 u 0.2 1\n", &[], Some((1, LineCause::MateGiven))),
+    ("0.1 s 1.1 1\n", &[], Some((1, LineCause::MateGiven))),
+    ("0.1 r - 1\n", &[], Some((1, LineCause::MateMissing))),
+    ("0.1 y - 1\n", &[], Some((1, LineCause::MateMissing))),
+    ("0.1 r x 1\n", &[], Some((1, LineCause::BadId))),
+    ("0.1 r 7.1 1\n", &[], Some((1, LineCause::NoTrace))),
+    ("0.1 r 1.1000001 1\n", &[], Some((1, LineCause::BadNumber))),
+    ("0.1 u - 01\n", &[], Some((1, LineCause::BadTime))),
+    ("0.1 u - 1\r\n", &[], Some((1, LineCause::BadTime))),
+    ("\u{e9} u - 1\n", &[], Some((1, LineCause::BadId))),
+    // Two causes in one line: the first in the order counts.
+    ("x v - 1\n", &[], Some((1, LineCause::BadId))),
+    ("0.1 v x y\n", &[], Some((1, LineCause::NoType))),
+    ("0.1 r x y\n", &[], Some((1, LineCause::BadId))),
+    ("7.0 u - 1\n", &[], Some((1, LineCause::NoTrace))),
+    // Behind good lines: the closed batches stay, and the one that is open is lost.
+    (
+        "0.1 u - 1\n.\n0.2 u - 1\nx u - 1\n",
+        &[1],
+        Some((4, LineCause::BadId)),
+    ),
+    (
+        "0.1 u - 1\n.\n0.2 u - 2",
+        &[1],
+        Some((3, LineCause::Unended)),
+    ),
+    (
+        "0.1 u - 1\nx u - 1\n.\n0.2 u - 1\n.\n",
+        &[],
+        Some((2, LineCause::BadId)),
+    ),
+    ("0.1 u - 1 \u{e9}\n", &[1], None),
+];
+
+fn is_told(outcome: &Outcome, sizes: &[usize], error: Option<(u64, LineCause)>) -> bool {
+    let error = match error {
+        Some((line, cause)) => Some(LineError { line, cause }),
+        None => None,
+    };
+    outcome.sizes.as_slice() == sizes && outcome.error == error
+}
+
+#[test]
+fn reads_texts_in_any_pieces(rt: HostRuntime) -> Result<(), Fail> {
+    let alloc = rt.alloc();
+    let types = Types::builtin(alloc, 7)?;
+    for (text, sizes, error) in TEXTS {
+        let bytes = text.as_bytes();
+        for first in 0..bytes.len() + 1 {
+            for size in [1, bytes.len().max(1)] {
+                assert!(rt; size > 0);
+                let outcome = read_pieces(alloc, &types, bytes, first, size)?;
+                assert!(rt;
+                    is_told(&outcome, sizes, error),
+                    "{text} in pieces of {first} and {size}"
+                );
+            }
+        }
+    }
+    Ok(())
+}
+
+#[test]
+fn reads_up_to_its_limits(rt: HostRuntime) -> Result<(), Fail> {
+    let alloc = rt.alloc();
+    let types = Types::builtin(alloc, 7)?;
+    let counts: [(u32, &[usize]); 3] = [
+        (1_000, &[1_000]),
+        (1_001, &[1_000, 1]),
+        (2_000, &[1_000, 1_000]),
+    ];
+    for (count, sizes) in counts {
+        let text = lines_of_events(alloc, count)?;
+        for size in [1, 4096] {
+            assert!(rt; size > 0);
+            let outcome = read_pieces(alloc, &types, &text, 0, size)?;
+            assert!(rt; is_told(&outcome, sizes, None), "{count} events");
+        }
+    }
+    // Lines of 400 and 401 bytes, ended and not, and texts of 200 and 201 bytes.
+    let lines: [(usize, bool, LineCause); 5] = [
+        (201, true, LineCause::LongText),
+        (390, true, LineCause::LongText),
+        (390, false, LineCause::Unended),
+        (391, true, LineCause::LongLine),
+        (391, false, LineCause::LongLine),
+    ];
+    for (length, ends, cause) in lines {
+        let mut text = line_with_text(alloc, length)?;
+        if ends {
+            text.push(b'\n')?;
+        }
+        let outcome = read_pieces(alloc, &types, &text, 7, 64)?;
+        assert!(rt;
+            is_told(&outcome, &[], Some((1, cause))),
+            "a text of {length} bytes"
+        );
+    }
+    let mut text = line_with_text(alloc, 200)?;
+    text.push(b'\n')?;
+    let outcome = read_pieces(alloc, &types, &text, 7, 64)?;
+    assert!(rt; is_told(&outcome, &[1], None));
     Ok(())
 }

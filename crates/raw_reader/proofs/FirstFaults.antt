@@ -1,0 +1,234 @@
+-- What the first fault of fields says, and that a spelling has none.
+use Rattle.std.proofs.Common.{◌≡◌, ◌≢◌, ℕ, ◌^◌, ◌<◌, ◌≤◌, inl, inr, List, [], ◌∷◌, ◌++◌, length, Some, None, Option, IsSome, ◌↔◌, refl, sym, ◌∙◌, ap, subst, arith}
+use Rattle.std.specs.Prelude.{Contains, codes, decimal, IfSome, IfNone}
+use Rattle.std.proofs.lemmas.Fmt.{decimal_nonempty}
+use Rattle.std.proofs.lemmas.List.Elements.{All-cons, All-nil, Contains-append_right}
+use Rattle.causal_base.specs.declared.event.Event.{Event}
+use Rattle.causal_base.specs.declared.event_id.EventId.{EventId}
+use Rattle.causal_base.specs.declared.fields.IdFault.{IdFault}
+use Rattle.causal_base.specs.declared.fields.IdFault.TheVariants as id_fault
+use Rattle.causal_base.specs.declared.kind.Kind.{Kind}
+use Rattle.causal_base.specs.Event.{IsFit, IsInRange, NamesAnother}
+use Rattle.causal_base.specs.Fields.{IsIdInRange, HasIdFault, IsNoId, NamesNoTrace, NamesNoNumber}
+use Rattle.causal_base.specs.Spelling.{IsId, IsName, id_text, mate_text, name_of, spelling, text_part}
+use Rattle.causal_base.specs.Types.{TypeTable, kind_of}
+use Rattle.causal_base.specs.TypeTables.{IsTypeTable}
+use Rattle.causal_base.proofs.Members.{Contains-there, Contains-nil}
+use Rattle.causal_base.proofs.Decimals.{below_two_to_64}
+use Rattle.causal_base.proofs.IdTexts.{fault_excludes, id_once, no_id_uncut}
+use Rattle.raw_reader.specs.declared.cause.LineCause.{LineCause}
+use Rattle.raw_reader.specs.declared.cause.LineCause.TheVariants.{Shape, BadId, NoTrace, BadNumber}
+use Rattle.raw_reader.specs.Splits.{IsSplit}
+use Rattle.raw_reader.proofs.Splitting.{split_once}
+use Rattle.raw_reader.proofs.Spelled.{has_type, spelling_is_split}
+use Rattle.raw_reader.specs.Causes.{Faults, IsFirst, NoneHolds, id_faults, id_cause, mate_faults, end_faults, Fields, AreFields, HasType, IsFieldsCause, IsCause}
+
+-- the first fault of some is that of these and more
+pub first_of_some : (some more : Faults) (cause : LineCause) → IsFirst some cause → IsFirst (some ++ more) cause
+first_of_some [] more cause first = absurd first
+first_of_some (fault ∷ some) more cause first = elim first [ inl holds ↦ inl holds | inr later ↦ inr (later.0, first_of_some some more cause later.1) ]
+
+-- and where none of them holds, the first of others is that of all
+pub first_of_more : (some more : Faults) (cause : LineCause) → NoneHolds some → IsFirst more cause → IsFirst (some ++ more) cause
+first_of_more [] more cause none first = first
+first_of_more (fault ∷ some) more cause none first = inr (none.0, first_of_more some more cause none.1 first)
+
+-- where none of the faults holds, none is the first
+pub none_is_first : (faults : Faults) (cause : LineCause) → NoneHolds faults → IsFirst faults cause → ⊥
+none_is_first [] cause none first = first
+none_is_first (fault ∷ faults) cause none first = elim first [ inl holds ↦ none.0 holds.0 | inr later ↦ none_is_first faults cause none.1 later.1 ]
+
+pub none_of_both : (some more : Faults) → NoneHolds some → NoneHolds more → NoneHolds (some ++ more)
+none_of_both [] more none others = others
+none_of_both (fault ∷ some) more none others = (none.0, none_of_both some more none.1 others)
+
+-- the fault that is found of an id is its first
+pub id_first : (traces : ℕ) (bytes : List ℕ) (fault : IdFault) → HasIdFault bytes traces fault → IsFirst (id_faults traces bytes) (id_cause fault)
+id_first traces bytes id_fault.BadId fault = inl (fault, refl)
+id_first traces bytes id_fault.NoTrace fault = inr ((λ no_id. no_id fault.trace fault.number fault.is_id), inl (fault, refl))
+id_first traces bytes id_fault.BadNumber fault = inr (
+  (λ no_id. no_id fault.trace fault.number fault.is_id),
+  inr (
+    (λ other. let same = id_once bytes fault.trace fault.number other.trace other.number fault.is_id other.is_id in let among = fault.among in let beyond = other.beyond in omega (arith, same.0, among, beyond)),
+    inl (fault, refl),
+  ),
+)
+
+-- an id in range has no fault
+pub id_has_none : (traces : ℕ) (bytes : List ℕ) (id : EventId) → IsIdInRange bytes traces id → NoneHolds (id_faults traces bytes)
+id_has_none traces bytes id range =
+    (fault_excludes bytes traces id id_fault.BadId range, (fault_excludes bytes traces id id_fault.NoTrace range, (fault_excludes bytes traces id id_fault.BadNumber range, tt)))
+
+-- what is wrong with the id that is named is what is wrong with the mate
+pub named_first : (traces : ℕ) (kind : Kind) (mate : List ℕ) (cause : LineCause) → NamesAnother kind → mate ≢ codes "-" → IsFirst (id_faults traces mate) cause → IsFirst (mate_faults traces kind mate) cause
+named_first traces kind mate cause names named first = inr ((λ given. given.0 names), inr ((λ missing. named missing.1), later first))
+  where
+    later : IsFirst (id_faults traces mate) cause → IsFirst ((BadId, NamesAnother kind × IsNoId mate) ∷ (NoTrace, NamesAnother kind × NamesNoTrace mate traces) ∷ (BadNumber, NamesAnother kind × NamesNoNumber mate traces) ∷ []) cause
+    later first = elim first [
+      | inl bad ↦ inl ((names, bad.0), bad.1)
+      | inr rest ↦ inr (
+        (λ bad. rest.0 bad.1),
+        elim rest.1 [
+          | inl none ↦ inl ((names, none.0), none.1)
+          | inr more ↦ inr ((λ none. more.0 none.1), elim more.1 [ inl number ↦ inl ((names, number.0), number.1) | inr nothing ↦ absurd nothing.1 ])
+        ],
+      )
+    ]
+
+-- a line whose fields aren't all there has no shape
+pub shape_cause : (types : TypeTable) (line : List ℕ) (fields : Fields) → IsSplit line fields.id fields.name fields.mate fields.time fields.text
+    → ((fields.id ≢ []) × (fields.name ≢ []) × (fields.mate ≢ []) × (fields.time ≢ []) → ⊥) → IsCause types line Shape
+shape_cause types line fields split not_four = inl (none, refl)
+  where
+    none : (other : Fields) → AreFields line other → ⊥
+    none other are =
+        let same = split_once line other.id other.name other.mate other.time other.text fields.id fields.name fields.mate fields.time fields.text are.split split in
+        not_four (
+          subst (λ v. v ≢ []) same.id_same are.some_id,
+          subst (λ v. v ≢ []) same.name_same are.some_name,
+          subst (λ v. v ≢ []) same.mate_same are.some_mate,
+          subst (λ v. v ≢ []) same.time_same are.some_time,
+        )
+
+-- the fields of a line that are there
+pub are_fields : (line : List ℕ) (fields : Fields) → IsSplit line fields.id fields.name fields.mate fields.time fields.text
+    → (fields.id ≢ []) × (fields.name ≢ []) × (fields.mate ≢ []) × (fields.time ≢ []) → AreFields line fields
+are_fields line fields split four = record { split = split; some_id = four.0; some_name = four.1; some_mate = four.2; some_time = four.3 }
+
+-- what is wrong with the mate, the time and the text
+pub later_cause : (types : TypeTable) (line : List ℕ) (fields : Fields) (id : EventId) (kind : Kind) (cause : LineCause) → AreFields line fields → IsIdInRange fields.id types.traces id → HasType types fields.name kind
+    → IsFirst (mate_faults types.traces kind fields.mate ++ end_faults fields.time fields.text) cause → IsCause types line cause
+later_cause types line fields id kind cause are in_range has first =
+    inr (fields, are, inr (id_has_none types.traces fields.id id in_range, inr (kind, has, first)))
+
+-- a dash is no id
+dash_is_no_id : (trace number : ℕ) → IsId (codes "-") trace number → ⊥
+dash_is_no_id trace number is = no_id_uncut (codes "-") (All-cons (λ b. b ≡ 46 → ⊥) 45 [] (λ same. cc) (All-nil (λ b. b ≡ 46 → ⊥))) trace number is
+
+-- a mate that is read has no fault
+pub mate_has_none : (traces : ℕ) (kind : Kind) (field : List ℕ) (mate : Option EventId) → IsSome mate ↔ NamesAnother kind → IfSome mate (IsIdInRange field traces) → IfNone mate (field ≡ codes "-") → NoneHolds (mate_faults traces kind field)
+mate_has_none traces kind field None named in_range dash = (
+  (λ given. given.1 dash),
+  (
+    (λ missing. let some = named.1 missing.0 in cc),
+    (
+      (λ bad. let some = named.1 bad.0 in cc),
+      ((λ bad. let some = named.1 bad.0 in cc), ((λ bad. let some = named.1 bad.0 in cc), tt)),
+    ),
+  ),
+)
+mate_has_none traces kind field (Some id) named in_range dash =
+    let none = id_has_none traces field id in_range in (
+      (λ given. given.0 (named.0 refl)),
+      ((λ missing. no_dash missing.1), ((λ bad. none.0 bad.1), ((λ bad. none.1.0 bad.1), ((λ bad. none.1.1.0 bad.1), tt)))),
+    )
+  where
+    no_dash : field ≡ codes "-" → ⊥
+    no_dash is = dash_is_no_id id.trace id.number (subst (λ f. IsId f id.trace id.number) is in_range.is_id)
+
+-- an id in range of a table
+pub in_range_of : (types : TypeTable) (bytes : List ℕ) (id : EventId) → IsIdInRange bytes types.traces id → IsInRange types id
+in_range_of types bytes id range = record { trace = range.trace; least = range.least; most = range.most }
+
+pub mate_range : (types : TypeTable) (bytes : List ℕ) (mate : Option EventId) → IfSome mate (IsIdInRange bytes types.traces) → IfSome mate (IsInRange types)
+mate_range types bytes None range = tt
+mate_range types bytes (Some id) range = in_range_of types bytes id range
+
+-- what a text has, its line has
+pub text_in_line : (line id name mate time text : List ℕ) (byte : ℕ) → IsSplit line id name mate time text → Contains text byte → Contains line byte
+text_in_line line id name mate time text byte split has =
+    subst (λ bytes. Contains bytes byte) (sym split.whole)
+    (Contains-append_right id (32 ∷ (name ++ 32 ∷ (mate ++ 32 ∷ (time ++ text_part text)))) byte
+    (Contains-there 32 (name ++ 32 ∷ (mate ++ 32 ∷ (time ++ text_part text))) byte
+    (Contains-append_right name (32 ∷ (mate ++ 32 ∷ (time ++ text_part text))) byte
+    (Contains-there 32 (mate ++ 32 ∷ (time ++ text_part text)) byte
+    (Contains-append_right mate (32 ∷ (time ++ text_part text)) byte
+    (Contains-there 32 (time ++ text_part text) byte
+    (Contains-append_right time (text_part text) byte (in_part text has))))))))
+  where
+    in_part : (bytes : List ℕ) → Contains bytes byte → Contains (text_part bytes) byte
+    in_part [] has = absurd (Contains-nil byte has)
+    in_part (c ∷ cs) has = Contains-there 32 (c ∷ cs) byte has
+
+-- an id in range is so in its text
+id_in_text : (types : TypeTable) (id : EventId) → types.traces ≤ 256 → IsInRange types id → IsIdInRange (id_text id) types.traces id
+id_in_text types id few range = record {
+  is_id = record { small_trace = omega (arith, few, range.trace); small_number = omega (arith, range.most); spelled = refl };
+  trace = range.trace;
+  least = range.least;
+  most = range.most;
+}
+
+some_front : (front more : List ℕ) → front ≢ [] → front ++ more ≢ []
+some_front [] more some none = some refl
+some_front (x ∷ front) more some none = cc
+
+some_decimal : (n : ℕ) → n < 10 ^ 18 → decimal n ≢ []
+some_decimal n small none = let some = decimal_nonempty n (below_two_to_64 n small) in let size = ap length none in omega (arith, some, size)
+
+some_mate_text : (types : TypeTable) (mate : Option EventId) → types.traces ≤ 256 → IfSome mate (IsInRange types) → mate_text mate ≢ []
+some_mate_text types None few range none = cc
+some_mate_text types (Some id) few range none = some_front (decimal id.trace) _ (some_decimal id.trace (omega (arith, few, range.trace))) none
+
+some_name_text : (bytes : List ℕ) → IsName bytes → bytes ≢ []
+some_name_text [] name none = cc
+some_name_text (c ∷ cs) name none = cc
+
+-- the fields of an event's spelling
+abbrev fields_spelled : TypeTable → Event → Fields
+fields_spelled types e = record { id = id_text e.id; name = name_of types e.type_no; mate = mate_text e.mate; time = decimal e.time; text = e.text }
+
+spelled_fields : (types : TypeTable) (line : List ℕ) (e : Event) → IsTypeTable types → IsFit types e → line ≡ spelling types e → AreFields line (fields_spelled types e)
+spelled_fields types line e table fit spelled = record {
+  split = spelling_is_split types line e table fit spelled;
+  some_id = some_front (decimal e.id.trace) _ (some_decimal e.id.trace (let few = table.most_traces in let range = fit.id.trace in omega (arith, few, range)));
+  some_name = some_name_text (name_of types e.type_no) (table.names e.type_no (has_type types e.type_no fit.kind fit.is_of_kind));
+  some_mate = some_mate_text types e.mate table.most_traces fit.mate_in_range;
+  some_time = some_decimal e.time fit.time;
+}
+
+mate_in_text : (types : TypeTable) (mate : Option EventId) → types.traces ≤ 256 → IfSome mate (IsInRange types) → IfSome mate (IsIdInRange (mate_text mate) types.traces)
+mate_in_text types None few range = tt
+mate_in_text types (Some id) few range = id_in_text types id few range
+
+dash_where_none : (mate : Option EventId) → IfNone mate (mate_text mate ≡ codes "-")
+dash_where_none None = refl
+dash_where_none (Some id) = tt
+
+-- nothing is wrong with the fields of a spelling
+no_fields_cause : (types : TypeTable) (e : Event) (cause : LineCause) → IsTypeTable types → IsFit types e → IsFieldsCause types (fields_spelled types e) cause → ⊥
+no_fields_cause types e cause table fit wrong = elim wrong [
+  | inl id ↦ none_is_first (id_faults types.traces (id_text e.id)) cause (id_has_none types.traces (id_text e.id) e.id (id_in_text types e.id table.most_traces fit.id)) id
+  | inr rest ↦ elim rest.1 [
+    | inl no_type ↦ no_type.0 e.type_no within refl
+    | inr typed ↦
+        let same = table.distinct typed.1.type_no e.type_no typed.1.in_table within typed.1.named in
+        let kinds : Some fit.kind ≡ Some typed.0 = sym fit.is_of_kind ∙ (ap (kind_of types) (sym same) ∙ typed.1.is_of_kind) in
+        let kind : fit.kind ≡ typed.0 = cc in
+        let mates = mate_has_none types.traces typed.0 (mate_text e.mate) e.mate (subst (λ k. IsSome e.mate ↔ NamesAnother k) kind fit.mate)
+        (mate_in_text types e.mate table.most_traces fit.mate_in_range) (dash_where_none e.mate) in
+        let ends : NoneHolds (end_faults (decimal e.time) e.text) = ((λ no_number. no_number e.time (record { small = fit.time; spelled = refl })), ((λ long. let most = fit.text_length in omega (arith, long, most)), tt)) in
+        none_is_first (mate_faults types.traces typed.0 (mate_text e.mate) ++ end_faults (decimal e.time) e.text) cause
+        (none_of_both (mate_faults types.traces typed.0 (mate_text e.mate)) (end_faults (decimal e.time) e.text) mates ends) typed.2
+  ]
+]
+  where
+    within : e.type_no < length types.rows
+    within = has_type types e.type_no fit.kind fit.is_of_kind
+
+same_fields : (line : List ℕ) (some other : Fields) → AreFields line some → AreFields line other → some ≡ other
+same_fields line some other are also =
+    let same = split_once line some.id some.name some.mate some.time some.text other.id other.name other.mate other.time other.text are.split also.split in
+    ap (λ v. record { id = v; name = some.name; mate = some.mate; time = some.time; text = some.text }) same.id_same
+    ∙ (ap (λ v. record { id = other.id; name = v; mate = some.mate; time = some.time; text = some.text }) same.name_same
+    ∙ (ap (λ v. record { id = other.id; name = other.name; mate = v; time = some.time; text = some.text }) same.mate_same
+    ∙ (ap (λ v. record { id = other.id; name = other.name; mate = other.mate; time = v; text = some.text }) same.time_same
+    ∙ ap (λ v. record { id = other.id; name = other.name; mate = other.mate; time = other.time; text = v }) same.text_same)))
+
+-- a line that spells a fit event has no cause
+pub spelled_has_no_cause : (types : TypeTable) (line : List ℕ) (e : Event) (cause : LineCause) → IsTypeTable types → IsFit types e → line ≡ spelling types e → IsCause types line cause → ⊥
+spelled_has_no_cause types line e cause table fit spelled wrong = elim wrong [
+  | inl shape ↦ shape.0 (fields_spelled types e) (spelled_fields types line e table fit spelled)
+  | inr other ↦ no_fields_cause types e cause table fit
+      (subst (λ fields. IsFieldsCause types fields cause) (same_fields line other.0 (fields_spelled types e) other.1 (spelled_fields types line e table fit spelled)) other.2)
+]

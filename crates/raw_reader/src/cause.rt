@@ -1,0 +1,38 @@
+/// What is wrong with a line of events, the first of these that applies.
+#[derive(Clone, Copy, Debug, PartialEq, Eq)]
+pub enum LineCause {
+    /// The input has more than 1,073,741,824 bytes, and the line doesn't end within that many.
+    TooLarge,
+    /// The line has more than 400 bytes.
+    LongLine,
+    /// The input ends within the line.
+    Unended,
+    /// The line isn't four fields with one space between them, and perhaps one more space and a text behind them.
+    Shape,
+    /// The event's id, or the one that it names, isn't two numbers with a full stop between them.
+    BadId,
+    /// The trace of one of them is none of the traces.
+    NoTrace,
+    /// The number of one of them isn't from 1 to 1,000,000.
+    BadNumber,
+    /// The type is none of the types.
+    NoType,
+    /// An event of this type names no other, and the line names one.
+    MateGiven,
+    /// An event of this type names another, and the line names none.
+    MateMissing,
+    /// The time isn't a number.
+    BadTime,
+    /// The text has more than 200 bytes.
+    LongText,
+    /// Memory ran out.
+    Oom,
+}
+
+/// Why a text of events wasn't read further.
+#[derive(Clone, Copy, Debug, PartialEq, Eq)]
+pub struct LineError {
+    /// The number of the line, from 1. Every line counts.
+    pub line: u64,
+    pub cause: LineCause,
+}

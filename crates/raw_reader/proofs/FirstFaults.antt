@@ -102,7 +102,7 @@ later_cause types line fields id kind cause are in_range has first =
     inr (fields, are, inr (id_has_none types.traces fields.id id in_range, inr (kind, has, first)))
 
 -- a dash is no id
-dash_is_no_id : (trace number : ℕ) → IsId (codes "-") trace number → ⊥
+pub dash_is_no_id : (trace number : ℕ) → IsId (codes "-") trace number → ⊥
 dash_is_no_id trace number is = no_id_uncut (codes "-") (All-cons (λ b. b ≡ 46 → ⊥) 45 [] (λ same. cc) (All-nil (λ b. b ≡ 46 → ⊥))) trace number is
 
 -- a mate that is read has no fault
@@ -216,7 +216,7 @@ no_fields_cause types e cause table fit wrong = elim wrong [
     within : e.type_no < length types.rows
     within = has_type types e.type_no fit.kind fit.is_of_kind
 
-same_fields : (line : List ℕ) (some other : Fields) → AreFields line some → AreFields line other → some ≡ other
+pub same_fields : (line : List ℕ) (some other : Fields) → AreFields line some → AreFields line other → some ≡ other
 same_fields line some other are also =
     let same = split_once line some.id some.name some.mate some.time some.text other.id other.name other.mate other.time other.text are.split also.split in
     ap (λ v. record { id = v; name = some.name; mate = some.mate; time = some.time; text = some.text }) same.id_same

@@ -5,3 +5,6 @@ pub mod Exits
 pub mod Reading
 pub mod FirstFaults
 pub mod ReaderSteps
+pub mod BatchesTaken
+pub mod LinesOnce
+pub mod FaultsOnce

@@ -142,6 +142,10 @@ impl<'a> Reader<'a> {
         ensures some { IfSome result (λ batch. self.old.waiting ≡ batch ∷ self.new.waiting) }
         ensures none { IfNone result (self.old.waiting ≡ []) }
         ensures rest { self.new ≡ record self.old { waiting = self.new.waiting } }
+        ensures stands { IfSome result (λ batch. (fed : List ℕ) (taken : List (List Event))
+            → StandsFor self.old fed taken → StandsFor self.new fed (taken ++ batch ∷ [])) }
+        ensures at_end { IfSome result (λ batch. (fed : List ℕ) (taken : List (List Event))
+            → StandsAtEnd self.old fed taken → StandsAtEnd self.new fed (taken ++ batch ∷ [])) }
     {
         self.waiting.pop_front()
     }

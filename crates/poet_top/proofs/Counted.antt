@@ -2,24 +2,27 @@
 use Rattle.std.proofs.Common.{◌≡◌, ◌<◌, ◌≤◌, ◌⊎◌, ℕ, inl, inr, Bool, true, false, cond, List, [], ◌∷◌, ◌++◌, length, map, reverse, refl, sym, ◌∙◌, ap, subst, arith}
 use Rattle.std.specs.Prelude.{Contains}
 use Rattle.std.specs.Cmp.{IsEquivalence}
-use Rattle.std.specs.List.{AllByRecursion}
+use Rattle.std.specs.List.{AllByRecursion, IsDistinct}
 use Rattle.std.specs.Set.{distinct_count, is_member, unique_keys}
 use Rattle.std.proofs.lemmas.Bool.{or_left, or_right, or_cases}
 use Rattle.std.proofs.lemmas.List.{reverse-append, length-map}
 use Rattle.std.proofs.lemmas.List.Elements.{Contains-append_left, Contains-append_right}
+use Rattle.std.proofs.lemmas.Map.Keys.{IsDistinct-cons}
 use Rattle.std.proofs.lemmas.Map.Made.{IsDistinct-from_count, length-from_keys, length-le_from_is_member}
 use Rattle.causal_base.specs.declared.entry.Entry.{Entry}
 use Rattle.causal_base.specs.declared.entry.Entry.TheVariants.{Came, Gone, Pair, Ended}
 use Rattle.causal_base.specs.declared.event.Event.{Event}
 use Rattle.causal_base.specs.declared.event_id.EventId.{EventId}
 use Rattle.causal_base.specs.Types.{TypeTable}
-use Rattle.causal_base.specs.InTurn.{DeliversSomething, SettlesTo}
+use Rattle.causal_base.specs.InTurn.{DeliversSomething, SettlesTo, ComesInTurn}
 use Rattle.causal_base.specs.Past.{came, is_same_id, HasEvent, IsLegalPast}
 use Rattle.causal_base.specs.Journal.{came_by, IsLegal}
 use Rattle.causal_base.proofs.Ids.{is_same_id-same, same_from_is_same_id}
 use Rattle.causal_base.proofs.Journals.{reverse-push, came-append}
 use Rattle.causal_base.proofs.Members.{Contains-cons, Contains-here, Contains-there, Contains-nil}
-use Rattle.poet_top.specs.Ask.{most_plain_events, count_of_ids, IsTaken}
+use Rattle.poet_top.specs.Ask.{most_events, most_plain_events, count_of_ids}
+use Rattle.poet_top.specs.Taking.{HaveSameIds, HasTaken}
+use Rattle.poet_top.proofs.Turns.{took_known, took_new}
 
 -- tests that are true together are one
 one_answer : (b d : Bool) → (b ≡ true → d ≡ true) → (d ≡ true → b ≡ true) → b ≡ d
@@ -54,11 +57,6 @@ has_member (e ∷ events) id member = elim (or_cases (is_same_id id e.id) (is_me
   | inl is ↦ (e, Contains-here e events, sym (same_from_is_same_id id e.id is))
   | inr rest ↦ let has = has_member events id rest in (has.0, Contains-there e events has.0 has.1, has.2)
 ]
-
--- events with the same ids
-pub record HaveSameIds (some others : List Event) : Type 0 where
-  pub forth : (id : EventId) → HasEvent some id → HasEvent others id
-  pub back : (id : EventId) → HasEvent others id → HasEvent some id
 
 same_members : (some others : List Event) → HaveSameIds some others → (id : EventId) → is_member is_same_id (ids_of some) id ≡ is_member is_same_id (ids_of others) id
 same_members some others same id = one_answer (is_member is_same_id (ids_of some) id) (is_member is_same_id (ids_of others) id)
@@ -183,22 +181,69 @@ came_settled types before after collector e settles =
     ∙ (ap (λ es. es ++ came (reverse (before ++ Came collector e ∷ []))) (none_came settles.more settles.delivers)
     ∙ ap came (reverse-push before (Came collector e)))))
 
--- what holds of the journal after each of the events
-pub record IsCounted (types : TypeTable) (journal : List Entry) (events : List Event) : Type 0 where
-  pub legal : IsLegal types journal
-  pub same_ids : HaveSameIds (came_by journal) events
-  pub few : length (came_by journal) ≤ most_plain_events
+module _ (types : TypeTable) (events : List Event) (before : List Entry) (has : HasTaken types events before) (e : Event) where
+  -- an event of a known id is passed over
+  pub taken_known : HasEvent (came_by before) e.id → HasTaken types (events ++ e ∷ []) before
+  taken_known known = record {
+    took = took_known types events e before has.took known;
+    legal = has.legal;
+    same_ids = known_more (came_by before) events e has.same_ids known;
+    few = has.few;
+  }
 
--- it holds after one more
-pub taken_on : (types : TypeTable) (before later : List Entry) (events : List Event) (e : Event) → IsLegal types before → HaveSameIds (came_by before) events → length (came_by before) ≤ most_plain_events → IsTaken types before e later → HasEvent (came_by before) e.id ⊎ (length (came_by before) < most_plain_events) → IsCounted types later (events ++ e ∷ [])
-taken_on types before later events e legal same few taken room = elim taken [
-  | inl known ↦ subst (λ journal. IsCounted types journal (events ++ e ∷ [])) (sym known.1)
-      (record { legal = legal; same_ids = known_more (came_by before) events e same known.0; few = few })
-  | inr comes ↦
+  -- and one with a new id comes
+  pub taken_new : (later : List Entry) → ComesInTurn types most_events 0 before e later → length (came_by before) < most_plain_events → HasTaken types (events ++ e ∷ []) later
+  taken_new later comes room =
       let now = came_settled types before later 0 e comes.settles in
       record {
+        took = took_new types events e before later has.took comes;
         legal = comes.settles.legal;
-        same_ids = subst (λ es. HaveSameIds es (events ++ e ∷ [])) (sym now) (one_more (came_by before) events e same);
-        few = elim room [ inl known ↦ absurd (comes.new known) | inr some ↦ (let size = ap length now in omega (arith, size, some)) ];
+        same_ids = subst (λ es. HaveSameIds es (events ++ e ∷ [])) (sym now) (one_more (came_by before) events e has.same_ids);
+        few = (let size = ap length now in omega (arith, size, room));
       }
-]
+
+  -- where the list is full, there are more ids than it takes
+  pub taken_many : (others : List Event) → (HasEvent (came_by before) e.id → ⊥) → length (came_by before) ≡ most_plain_events → most_plain_events < count_of_ids (events ++ e ∷ others)
+  taken_many others new full = let more = count_more types before has.legal events has.same_ids e others new in omega (arith, more, full)
+
+-- as many ids as the list takes, at most
+pub taken_few : (types : TypeTable) (events : List Event) (journal : List Entry) → HasTaken types events journal → count_of_ids events ≤ most_plain_events
+taken_few types events journal has = let count = count_is types journal has.legal events has.same_ids in let few = has.few in omega (arith, count, few)
+
+-- unique keys are keys, and differ
+unique_from : (ids : List EventId) (id : EventId) → is_member is_same_id (unique_keys is_same_id ids) id ≡ true → is_member is_same_id ids id ≡ true
+unique_from [] id member = member
+unique_from (x ∷ ids) id member =
+    elim (is_member is_same_id ids x) as (λ b. is_member is_same_id (cond b (unique_keys is_same_id ids) (x ∷ unique_keys is_same_id ids)) id ≡ true → is_member is_same_id (x ∷ ids) id ≡ true) [
+      | true ↦ λ rest. or_right (is_same_id id x) (is_member is_same_id ids id) (unique_from ids id rest)
+      | false ↦ λ either. elim (or_cases (is_same_id id x) (is_member is_same_id (unique_keys is_same_id ids) id) either) [
+        | inl is ↦ or_left (is_same_id id x) (is_member is_same_id ids id) is
+        | inr rest ↦ or_right (is_same_id id x) (is_member is_same_id ids id) (unique_from ids id rest)
+      ]
+    ] member
+
+not_true : (b : Bool) → (b ≡ true → ⊥) → b ≡ false
+not_true true not = absurd (not refl)
+not_true false not = refl
+
+none_same : (ids : List EventId) (id : EventId) → (is_member is_same_id ids id ≡ true → ⊥) → AllByRecursion (λ y. is_same_id id y ≡ false) ids
+none_same [] id not = tt
+none_same (x ∷ ids) id not = (
+  not_true (is_same_id id x) (λ is. not (or_left (is_same_id id x) (is_member is_same_id ids id) is)),
+  none_same ids id (λ rest. not (or_right (is_same_id id x) (is_member is_same_id ids id) rest)),
+)
+
+unique_distinct : (ids : List EventId) → IsDistinct is_same_id (unique_keys is_same_id ids)
+unique_distinct [] = IsDistinct-from_count ids_are_compared [] refl
+unique_distinct (x ∷ ids) =
+    elim (is_member is_same_id ids x) as (λ b. is_member is_same_id ids x ≡ b → IsDistinct is_same_id (cond b (unique_keys is_same_id ids) (x ∷ unique_keys is_same_id ids))) [
+      | true ↦ λ is. unique_distinct ids
+      | false ↦ λ is. IsDistinct-cons is_same_id x (unique_keys is_same_id ids) (none_same (unique_keys is_same_id ids) x (λ member. (let there = unique_from ids x member in cc))) (unique_distinct ids)
+    ] refl
+
+-- further events have no fewer ids
+pub count_front : (events others : List Event) → count_of_ids events ≤ count_of_ids (events ++ others)
+count_front events others =
+    length-le_from_is_member ids_are_compared (unique_keys is_same_id (ids_of events)) (unique_keys is_same_id (ids_of (events ++ others))) (unique_distinct (ids_of events))
+    (λ id member. (let has = has_member events id (unique_from (ids_of events) id member) in
+    unique_member (ids_of (events ++ others)) id (member_of (events ++ others) id (has.0, Contains-append_left events others has.0 has.1, has.2))))

@@ -1,21 +1,22 @@
 -- How a question ends where its file can't be had.
-use Rattle.std.proofs.Common.{◌≡◌, ◌<◌, ℕ, inl, inr, List, length, Option, Some, None, refl, sym, ◌∙◌, ap, arith}
-use Rattle.std.specs.Prelude.{IfSome, IsSomeAnd}
+use Rattle.std.proofs.Common.{◌≡◌, ◌<◌, ℕ, inl, inr, Bool, List, [], Option, Some, None, Result, Ok, Err, refl, sym, ◌∙◌, ap, subst, arith}
+use Rattle.std.specs.Prelude.{IfSome, IsSomeAnd, IfOk, IfErr, OnOk, MatchResult}
+use Rattle.causal_base.specs.declared.answer.Answer.{Answer}
 use Rattle.causal_base.specs.declared.event_id.EventId.{EventId}
 use Rattle.poet_io.specs.declared.files.OpenError.{OpenError}
 use Rattle.poet_io.specs.declared.files.OpenError.TheVariants as open_error
-use Rattle.poet_io.specs.declared.reading.ReadAllError.{ReadAllError}
-use Rattle.poet_io.specs.declared.reading.ReadAllError.TheVariants as read_error
 use Rattle.poet_io.specs.Faults.{IsRaised}
 use Rattle.poet_io.specs.FilesState.{FilesState, IsGivenBack}
 use Rattle.poet_io.specs.Folder.{Folder, IsOpenedAt}
 use Rattle.poet_io.specs.OpenError.{CountsOpenError}
-use Rattle.poet_io.specs.ReadAllError.{CountsReadAllError}
 use Rattle.poet_io.specs.Uses.{NotesOpenError}
 use Rattle.poet_io.proofs.GivenBack.{FileLife, told_left, given_back, failed_to_read}
 use Rattle.poet_top.specs.Ends.{TellsOf, EndsOver}
-use Rattle.poet_top.specs.Ask.{most_bytes, AreNoLines}
-use Rattle.poet_top.specs.FaultOutcome.{outcome_of_open, outcome_of_read}
+use Rattle.poet_top.specs.declared.fault.Fault.{Fault}
+use Rattle.poet_top.specs.declared.fault.Fault.TheVariants.{Words, Open, Read, Line, Memory, Full}
+use Rattle.poet_top.specs.Ask.{asked_types, IsAnswerOver}
+use Rattle.poet_top.specs.FaultOutcome.{outcome_of, outcome_of_fault, outcome_of_open, HasNoAnswer, CountsFault}
+use Rattle.poet_top.specs.Outcome.{Answered}
 
 -- folders of which the same is told are alike
 same_state : (f g : FilesState) → f.faults ≡ g.faults → f.folder ≡ g.folder → f.uses ≡ g.uses → f ≡ g
@@ -39,28 +40,51 @@ open_ends name a b before after open_error.Oom folder counts notes absent = inl 
 above_none : (old new : ℕ) → old ≡ 0 → IsRaised old new → 0 < new
 above_none old new none raised = elim raised.more_or_last [ inl more ↦ omega (arith, more) | inr last ↦ omega (arith, last) ]
 
+-- what holds of the bytes of a file as it was opened holds of what stands in the folder
+told_of : (P : List ℕ → Type 0) (name : List ℕ) (told_folder : Option Folder) (first_name first_left : Option (List ℕ)) → IfSome told_folder (λ folder. IsOpenedAt folder name first_name first_left) → IfSome first_left P → IfSome told_folder (λ folder. (bytes : List ℕ) × (folder name ≡ Some bytes) × P bytes)
+told_of P name None first_name first_left opened holds = tt
+told_of P name (Some folder) first_name None opened holds = absurd (
+    let none : folder name ≡ None = sym opened.whole in
+    let there = opened.there in
+    cc)
+told_of P name (Some folder) first_name (Some left) opened holds = (left, sym opened.whole, holds)
+
+pub tells_of : (P : List ℕ → Type 0) (name : List ℕ) (before : FilesState) (first_name first_left : Option (List ℕ)) → IfSome before.folder (λ folder. IsOpenedAt folder name first_name first_left) → IfSome first_left P → TellsOf before name P
+tells_of P name before first_name first_left opened holds = told_of P name before.folder first_name first_left opened holds
+
 module _ (name : List ℕ) (before after : FilesState) (life : FileLife name before after) (no_fault : life.last_faults ≡ 0 → after.faults ≡ before.faults) (fault : 0 < life.last_faults → IsRaised before.faults after.faults) where
   -- a file that came to no fault
   pub no_fault_ends : (first : ℕ) → first ≡ 0 → life.last_faults ≡ first → IsGivenBack name (told_left life.last_left) before after
   no_fault_ends first none same = given_back name before after life (same ∙ none) (no_fault (same ∙ none))
 
-  -- a file that wasn't read whole
-  pub read_ends : (first : ℕ) (a b : EventId) (error : ReadAllError) → first ≡ 0 → CountsReadAllError error first life.last_faults → (error ≡ read_error.TooLong → TellsOf before name AreNoLines) → EndsOver name a b before after (outcome_of_read error name)
-  read_ends first a b read_error.Failed none counts long =
-      let some = above_none first life.last_faults none counts in
-      (refl, (told_left life.last_left, failed_to_read name before after life some (fault some)))
-  read_ends first a b read_error.TooLong none counts long = ((told_left life.last_left, no_fault_ends first none counts), long refl)
-  read_ends first a b read_error.Oom none counts long = inr (told_left life.last_left, no_fault_ends first none counts)
+  -- a file over which there is no answer
+  pub fault_ends : (first : ℕ) (a b : EventId) (fault : Fault) → first ≡ 0 → CountsFault name fault first life.last_faults → TellsOf before name (λ bytes. HasNoAnswer asked_types bytes fault) → EndsOver name a b before after (outcome_of_fault fault)
+  fault_ends first a b Words none counts caused = absurd counts
+  fault_ends first a b (Open its) none counts caused = absurd counts
+  fault_ends first a b (Read its) none counts caused =
+      let some = above_none first life.last_faults none counts.1 in
+      (counts.0, (told_left life.last_left, failed_to_read name before after life some (fault some)))
+  fault_ends first a b (Line error) none counts caused = ((told_left life.last_left, no_fault_ends first none counts), caused)
+  fault_ends first a b Memory none counts caused = inr (told_left life.last_left, no_fault_ends first none counts)
+  fault_ends first a b Full none counts caused = ((told_left life.last_left, no_fault_ends first none counts), caused)
 
--- bytes that are more than the most are no lines
-too_long : (name : List ℕ) (told_folder : Option Folder) (first_name first_left : Option (List ℕ)) → IfSome told_folder (λ folder. IsOpenedAt folder name first_name first_left) → IfSome first_left (λ left. most_bytes < length left) → IfSome told_folder (λ folder. (bytes : List ℕ) × (folder name ≡ Some bytes) × AreNoLines bytes)
-too_long name None first_name first_left opened long = tt
-too_long name (Some folder) first_name None opened long = absurd (
-    let none : folder name ≡ None = sym opened.whole in
-    let there = opened.there in
-    cc)
-too_long name (Some folder) first_name (Some left) opened long =
-    (left, sym opened.whole, λ events lines. let within = lines.within in omega (arith, within, long))
+  -- a file that was read to its end
+  pub answer_ends : (first : ℕ) (a b : EventId) (answer : Answer Bool) → first ≡ 0 → life.last_faults ≡ first → IfSome life.last_left (λ left. left ≡ []) → TellsOf before name (λ bytes. IsAnswerOver asked_types bytes a b answer) → EndsOver name a b before after (Answered answer)
+  answer_ends first a b answer none same at_end says =
+      (subst (λ left. IsGivenBack name left before after) (nothing_left life.last_left at_end) (no_fault_ends first none same), says)
+    where
+      nothing_left : (left : Option (List ℕ)) → IfSome left (λ bytes. bytes ≡ []) → told_left left ≡ []
+      nothing_left None at_end = refl
+      nothing_left (Some left) at_end = at_end
 
-pub long_ends : (name : List ℕ) (before : FilesState) (first_name first_left : Option (List ℕ)) → IfSome before.folder (λ folder. IsOpenedAt folder name first_name first_left) → IfSome first_left (λ left. most_bytes < length left) → TellsOf before name AreNoLines
-long_ends name before first_name first_left opened long = too_long name before.folder first_name first_left opened long
+  -- a file that was read, with an answer or a fault
+  pub source_ends : (first : ℕ) (a b : EventId) (result : Result (Answer Bool) Fault) → first ≡ 0
+      → MatchResult result (λ _. life.last_faults ≡ first) (λ fault. CountsFault name fault first life.last_faults)
+      → OnOk result (IfSome life.last_left (λ left. left ≡ []))
+      → IfOk result (λ answer. IfSome life.first_left (λ bytes. IsAnswerOver asked_types bytes a b answer))
+      → IfErr result (λ fault. IfSome life.first_left (λ bytes. HasNoAnswer asked_types bytes fault))
+      → EndsOver name a b before after (outcome_of result)
+  source_ends first a b (Ok answer) none counts at_end says caused =
+      answer_ends first a b answer none counts at_end (tells_of (λ bytes. IsAnswerOver asked_types bytes a b answer) name before life.first_name life.first_left life.opened says)
+  source_ends first a b (Err fault) none counts at_end says caused =
+      fault_ends first a b fault none counts (tells_of (λ bytes. HasNoAnswer asked_types bytes fault) name before life.first_name life.first_left life.opened caused)

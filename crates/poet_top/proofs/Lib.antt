@@ -3,3 +3,7 @@ pub mod Turns
 pub mod Exits
 pub mod FileEnds
 pub mod Counted
+pub mod Waiting
+pub mod Pieces
+pub mod Sources
+pub mod Outcomes

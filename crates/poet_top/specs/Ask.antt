@@ -1,25 +1,17 @@
-use Rattle.std.specs.Prelude.{◌≡◌, ◌<◌, ◌≤◌, ◌⊎◌, ℕ, Bool, List, length, map}
+use Rattle.std.specs.Prelude.{◌<◌, ◌≤◌, ◌⊎◌, ℕ, Bool, List, map}
 use Rattle.std.specs.Set.{distinct_count}
-use Rattle.std.specs.List.{AllByRecursion}
 use Rattle.causal_base.specs.declared.answer.Answer.{Answer}
-use Rattle.causal_base.specs.declared.entry.Entry.{Entry}
 use Rattle.causal_base.specs.declared.event.Event.{Event}
 use Rattle.causal_base.specs.declared.event_id.EventId.{EventId}
 use Rattle.causal_base.specs.Types.{TypeTable, builtin_types}
-use Rattle.causal_base.specs.Event.{IsFit}
-use Rattle.causal_base.specs.Past.{HasEvent, is_same_id}
-use Rattle.causal_base.specs.Journal.{came_by}
-use Rattle.causal_base.specs.InTurn.{ComesInTurn}
+use Rattle.causal_base.specs.Past.{is_same_id}
 use Rattle.causal_base.specs.Asked.{IsAsked}
-use Rattle.raw_reader.specs.Lines.{text_of}
+use Rattle.raw_reader.specs.declared.cause.LineError.{LineError}
+use Rattle.raw_reader.specs.Texts.{events_of, HasClosed, IsGoodText, HasFault}
 
 -- the types of the events that `ask` reads: the built-in ones, over 256 traces
 abbrev pub asked_types : TypeTable
 asked_types = builtin_types 256
-
--- how many bytes a file of events has at most
-abbrev pub most_bytes : ℕ
-most_bytes = 65_536
 
 -- how many events one thread takes at most
 abbrev pub most_events : ℕ
@@ -33,31 +25,23 @@ most_plain_events = 10_000
 abbrev pub count_of_ids : List Event → ℕ
 count_of_ids events = distinct_count is_same_id (map (λ e. e.id) events)
 
--- an event of the one collector whose id came before is passed over, and a new one comes
-abbrev pub IsTaken : TypeTable → List Entry → Event → List Entry → Type 0
-IsTaken types before e after =
-    (HasEvent (came_by before) e.id × (after ≡ before)) ⊎ ComesInTurn types most_events 0 before e after
+-- The bytes are a good text, whose events have no more ids than the plain list takes, and the answer is the one over these
+-- events, taken in turn, that plain happened-before gives.
+pub record IsAnswerOver (types : TypeTable) (bytes : List ℕ) (a b : EventId) (answer : Answer Bool) : Type 0 where
+  pub batches : List (List Event)
+  pub good : IsGoodText types bytes batches
+  pub few : count_of_ids (events_of batches) ≤ most_plain_events
+  pub asked : IsAsked types most_events (events_of batches) a b answer
 
--- The bytes are no more than the most, and they are lines of events, these ones.
-pub record AreLinesOf (bytes : List ℕ) (events : List Event) : Type 0 where
-  pub within : length bytes ≤ most_bytes
-  pub fit : AllByRecursion (IsFit asked_types) events
-  pub lines : bytes ≡ text_of asked_types events
+-- The bytes have this first fault, and the events of the batches before it have no more ids than the plain list takes.
+pub record HasBadLine (types : TypeTable) (bytes : List ℕ) (error : LineError) : Type 0 where
+  pub batches : List (List Event)
+  pub fault : HasFault types bytes batches error
+  pub few : count_of_ids (events_of batches) ≤ most_plain_events
 
--- The bytes are more than the most, or aren't lines of events.
-abbrev pub AreNoLines : List ℕ → Type 0
-AreNoLines bytes = (events : List Event) → AreLinesOf bytes events → ⊥
-
--- The bytes are lines of events with no more ids than the plain list takes, and the answer is the one over these events,
--- taken in turn, that plain happened-before gives.
-pub record IsAnswerOver (bytes : List ℕ) (a b : EventId) (answer : Answer Bool) : Type 0 where
-  pub events : List Event
-  pub are_lines : AreLinesOf bytes events
-  pub few : count_of_ids events ≤ most_plain_events
-  pub asked : IsAsked asked_types most_events events a b answer
-
--- The bytes are lines of events with more ids than the plain list takes.
-pub record HaveManyIds (bytes : List ℕ) : Type 0 where
-  pub events : List Event
-  pub are_lines : AreLinesOf bytes events
-  pub many : most_plain_events < count_of_ids events
+-- The bytes begin with good lines that close batches of events with more ids than the plain list takes, or they are a good
+-- text and its batches are such.
+pub record HasManyIds (types : TypeTable) (bytes : List ℕ) : Type 0 where
+  pub batches : List (List Event)
+  pub closed : HasClosed types bytes batches ⊎ IsGoodText types bytes batches
+  pub many : most_plain_events < count_of_ids (events_of batches)

@@ -1,8 +1,8 @@
 use Rattle.std.specs.Prelude.{◌≡◌, ◌⊎◌, ℕ, List, [], None, Some, IfSome, IsSomeAnd}
 use Rattle.causal_base.specs.declared.event_id.EventId.{EventId}
 use Rattle.poet_io.specs.FilesState.{FilesState, IsGivenBack, HasFailedToRead, HasFailedToOpen}
-use Rattle.poet_top.specs.Ask.{IsAnswerOver, AreNoLines, HaveManyIds}
-use Rattle.poet_top.specs.Outcome.{Outcome, Answered, NoPlan, NotOpened, NotRead, NoEvents, NoMemory, ManyIds}
+use Rattle.poet_top.specs.Ask.{asked_types, IsAnswerOver, HasBadLine, HasManyIds}
+use Rattle.poet_top.specs.Outcome.{Outcome, Answered, NoPlan, NotOpened, NotRead, BadLine, NoMemory, ManyIds}
 use Rattle.poet_top.specs.Words.{AreAskWords, AreNoPlan}
 
 -- the file of this name is there and its bytes are so, where the folder tells what stands in it
@@ -13,15 +13,16 @@ TellsOf files name AreSo = IfSome files.folder (λ folder. (bytes : List ℕ) ×
 -- has no cause that is told.
 abbrev pub EndsOver : List ℕ → EventId → EventId → FilesState → FilesState → Outcome → Type 0
 EndsOver name a b before after (Answered answer) =
-    IsGivenBack name [] before after × TellsOf before name (λ bytes. IsAnswerOver bytes a b answer)
+    IsGivenBack name [] before after × TellsOf before name (λ bytes. IsAnswerOver asked_types bytes a b answer)
 EndsOver name a b before after NoPlan = ⊥
 EndsOver name a b before after (NotOpened its) = (its ≡ name)
     × (HasFailedToOpen name before after ⊎ ((after ≡ before) × IsSomeAnd before.folder (λ folder. folder name ≡ None)))
 EndsOver name a b before after (NotRead its) = (its ≡ name) × ((left : List ℕ) × HasFailedToRead name left before after)
-EndsOver name a b before after NoEvents =
-    ((left : List ℕ) × IsGivenBack name left before after) × TellsOf before name AreNoLines
+EndsOver name a b before after (BadLine error) =
+    ((left : List ℕ) × IsGivenBack name left before after) × TellsOf before name (λ bytes. HasBadLine asked_types bytes error)
 EndsOver name a b before after NoMemory = (after ≡ before) ⊎ ((left : List ℕ) × IsGivenBack name left before after)
-EndsOver name a b before after ManyIds = IsGivenBack name [] before after × TellsOf before name HaveManyIds
+EndsOver name a b before after ManyIds =
+    ((left : List ℕ) × IsGivenBack name left before after) × TellsOf before name (HasManyIds asked_types)
 
 -- When a run ends with an outcome, and what it leaves in the folder: it has no plan and touches nothing, or its question
 -- ends so over the file that it names.

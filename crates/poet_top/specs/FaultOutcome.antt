@@ -1,20 +1,22 @@
-use Rattle.std.specs.Prelude.{ℕ, Bool, List, Result, Ok, Err}
+use Rattle.std.specs.Prelude.{◌≡◌, ◌≢◌, ◌⊎◌, ℕ, Bool, List, Result, Ok, Err}
 use Rattle.causal_base.specs.declared.answer.Answer.{Answer}
+use Rattle.causal_base.specs.Types.{TypeTable}
 use Rattle.poet_io.specs.declared.files.OpenError.{OpenError}
 use Rattle.poet_io.specs.declared.files.OpenError.TheVariants as open_error
-use Rattle.poet_io.specs.declared.reading.ReadAllError.{ReadAllError}
-use Rattle.poet_io.specs.declared.reading.ReadAllError.TheVariants as read_error
+use Rattle.poet_io.specs.Faults.{IsRaised}
+use Rattle.raw_reader.specs.declared.cause.LineCause.TheVariants as line_cause
+use Rattle.raw_reader.specs.declared.cause.LineError.{LineError}
 use Rattle.poet_top.specs.declared.fault.Fault.{Fault}
 use Rattle.poet_top.specs.declared.fault.Fault.TheVariants.{Words, Open, Read, Line, Memory, Full}
-use Rattle.poet_top.specs.Ask.{AreNoLines, HaveManyIds}
-use Rattle.poet_top.specs.Outcome.{Outcome, Answered, NoPlan, NotOpened, NotRead, NoEvents, NoMemory, ManyIds}
+use Rattle.poet_top.specs.Ask.{HasBadLine, HasManyIds}
+use Rattle.poet_top.specs.Outcome.{Outcome, Answered, NoPlan, NotOpened, NotRead, BadLine, NoMemory, ManyIds}
 
 -- the outcome that a fault is
 abbrev pub outcome_of_fault : Fault → Outcome
 outcome_of_fault Words = NoPlan
 outcome_of_fault (Open name) = NotOpened name.now
 outcome_of_fault (Read name) = NotRead name.now
-outcome_of_fault Line = NoEvents
+outcome_of_fault (Line error) = BadLine error
 outcome_of_fault Memory = NoMemory
 outcome_of_fault Full = ManyIds
 
@@ -23,22 +25,31 @@ abbrev pub outcome_of : Result (Answer Bool) Fault → Outcome
 outcome_of (Ok answer) = Answered answer
 outcome_of (Err fault) = outcome_of_fault fault
 
--- when there is no answer over these bytes
-abbrev pub HasNoAnswer : List ℕ → Fault → Type 0
-HasNoAnswer bytes Words = ⊥
-HasNoAnswer bytes (Open name) = ⊥
-HasNoAnswer bytes (Read name) = ⊥
-HasNoAnswer bytes Line = AreNoLines bytes
-HasNoAnswer bytes Memory = Unit {0}
-HasNoAnswer bytes Full = HaveManyIds bytes
+-- when there is no answer over the bytes of a source; nothing is told of them where a read failed
+abbrev pub HasNoAnswer : TypeTable → List ℕ → Fault → Type 0
+HasNoAnswer types bytes Words = ⊥
+HasNoAnswer types bytes (Open name) = ⊥
+HasNoAnswer types bytes (Read name) = Unit {0}
+HasNoAnswer types bytes (Line error) = HasBadLine types bytes error
+HasNoAnswer types bytes Memory = Unit {0}
+HasNoAnswer types bytes Full = HasManyIds types bytes
 
--- the outcome where the file of this name wasn't opened, or wasn't read whole
+-- A fault over an open file of this name: a read of it failed and raised the count of its faults, or it left the count.
+abbrev pub CountsFault : List ℕ → Fault → (old new : ℕ) → Type 0
+CountsFault name Words old new = ⊥
+CountsFault name (Open its) old new = ⊥
+CountsFault name (Read its) old new = (its.now ≡ name) × IsRaised old new
+CountsFault name (Line error) old new = new ≡ old
+CountsFault name Memory old new = new ≡ old
+CountsFault name Full old new = new ≡ old
+
+-- the fault that a reader's refusal is: want of memory, or the line
+abbrev pub IsFaultOf : LineError → Fault → Type 0
+IsFaultOf error fault = ((error.cause ≡ line_cause.Oom) × (fault ≡ Memory))
+    ⊎ ((error.cause ≢ line_cause.Oom) × (fault ≡ Line error))
+
+-- the outcome where the file of this name wasn't opened
 abbrev pub outcome_of_open : OpenError → List ℕ → Outcome
 outcome_of_open open_error.Absent name = NotOpened name
 outcome_of_open open_error.Failed name = NotOpened name
 outcome_of_open open_error.Oom name = NoMemory
-
-abbrev pub outcome_of_read : ReadAllError → List ℕ → Outcome
-outcome_of_read read_error.Failed name = NotRead name
-outcome_of_read read_error.TooLong name = NoEvents
-outcome_of_read read_error.Oom name = NoMemory

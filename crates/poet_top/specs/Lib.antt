@@ -3,3 +3,4 @@ pub mod Ends
 pub mod FaultOutcome
 pub mod Outcome
 pub mod Words
+pub mod Taking

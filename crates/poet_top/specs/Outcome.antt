@@ -1,7 +1,9 @@
-use Rattle.std.specs.Prelude.{◌≡◌, ℕ, Bool, true, false, List, ◌++◌, Option, codes}
+use Rattle.std.specs.Prelude.{◌≡◌, ℕ, Bool, true, false, List, ◌++◌, Option, codes, decimal}
 use Rattle.causal_base.specs.declared.answer.Answer.{Answer}
 use Rattle.causal_base.specs.declared.answer.Answer.TheVariants.{Known, NotYet}
 use Rattle.causal_base.specs.Spelling.{id_text}
+use Rattle.raw_reader.specs.declared.cause.LineError.{LineError}
+use Rattle.raw_reader.specs.CauseNames.{cause_name}
 use Rattle.poet_io.specs.Faults.{IsRaised}
 use Rattle.poet_io.specs.Grows.{Grows, GrowsByFront}
 
@@ -11,7 +13,7 @@ pub data Outcome : Type 0 where
   NoPlan : Outcome
   NotOpened : (name : List ℕ) → Outcome
   NotRead : (name : List ℕ) → Outcome
-  NoEvents : Outcome
+  BadLine : LineError → Outcome
   NoMemory : Outcome
   ManyIds : Outcome
 
@@ -21,7 +23,7 @@ status_of (Answered answer) = 0
 status_of NoPlan = 1
 status_of (NotOpened name) = 2
 status_of (NotRead name) = 2
-status_of NoEvents = 6
+status_of (BadLine error) = 6
 status_of NoMemory = 7
 status_of ManyIds = 8
 
@@ -37,7 +39,7 @@ text_of_outcome (Answered answer) = answer_text answer ++ codes "\n"
 text_of_outcome NoPlan = codes "poet: words\n"
 text_of_outcome (NotOpened name) = codes "poet: open " ++ name ++ codes "\n"
 text_of_outcome (NotRead name) = codes "poet: read " ++ name ++ codes "\n"
-text_of_outcome NoEvents = codes "poet: line\n"
+text_of_outcome (BadLine error) = codes "poet: line " ++ (decimal error.line ++ (codes " " ++ cause_name error.cause ++ codes "\n"))
 text_of_outcome NoMemory = codes "poet: memory\n"
 text_of_outcome ManyIds = codes "poet: full\n"
 

@@ -1,11 +1,11 @@
-ghost use Rattle.std.specs.Prelude.{◌≡◌, ◌++◌, codes, decimal, OnOk, OnErr};
+ghost use Rattle.std.specs.Prelude.{◌≡◌, ◌++◌, codes, OnOk, OnErr};
 ghost use Rattle.causal_base.specs.Spelling.{id_text};
 ghost use Rattle.poet_io.specs.Faults.{IsRaised};
 ghost use Rattle.poet_io.specs.Grows.{Grows, GrowsByFront};
 ghost use Rattle.poet_top.specs.Outcome.{answer_text};
 
+use crate::number::put_number;
 use causal_base::{Answer, EventId};
-use itoa::Buffer;
 use poet_io::{Failed, Sink, put};
 
 /// Writes an answer, and ends the line.
@@ -33,18 +33,7 @@ fn put_id<K: Sink>(out: &mut K, id: EventId) -> Result<(), Failed>
     ensures no_fault { OnOk result (K.faults out.new ≡ K.faults out.old) }
     ensures fault { OnErr result (IsRaised (K.faults out.old) (K.faults out.new)) }
 {
-    put_number(out, id.trace)?;
+    put_number(out, id.trace as u64)?;
     put(out, b".")?;
-    put_number(out, id.number)
-}
-
-/// Writes a number in decimal.
-fn put_number<K: Sink>(out: &mut K, number: u32) -> Result<(), Failed>
-    ensures all { OnOk result (Grows (K.taken out.old) (K.taken out.new) (decimal number)) }
-    ensures part { OnErr result (GrowsByFront (K.taken out.old) (K.taken out.new) (decimal number)) }
-    ensures no_fault { OnOk result (K.faults out.new ≡ K.faults out.old) }
-    ensures fault { OnErr result (IsRaised (K.faults out.old) (K.faults out.new)) }
-{
-    let mut buffer = Buffer::new();
-    put(out, buffer.format(number).as_bytes())
+    put_number(out, id.number as u64)
 }

@@ -1,8 +1,11 @@
 ghost use Rattle.std.specs.Prelude.{◌≡◌, ◌++◌, codes, OnOk, OnErr};
 ghost use Rattle.poet_io.specs.Faults.{IsRaised};
 ghost use Rattle.poet_io.specs.Grows.{Grows, GrowsByFront};
+ghost use Rattle.poet_top.specs.Outcome.{BadLine, text_of_outcome};
 
-use poet_io::{Failed, OpenError, ReadAllError, Sink, put};
+use crate::number::put_number;
+use poet_io::{Failed, OpenError, Sink, put};
+use raw_reader::{LineCause, LineError};
 
 /// Why there is no answer.
 #[derive(Clone, Copy, Debug, PartialEq, Eq)]
@@ -13,8 +16,8 @@ pub enum Fault<'a> {
     Open(&'a str),
     /// The file of this name couldn't be read to its end.
     Read(&'a str),
-    /// A file is too long, or has a line that is no event.
-    Line,
+    /// The first line that is no event, and what is wrong with it.
+    Line(LineError),
     /// Memory ran out.
     Memory,
     /// There are more events than the plain list takes.
@@ -22,7 +25,7 @@ pub enum Fault<'a> {
 }
 
 impl<'a> Fault<'a> {
-    ghost use Rattle.poet_top.specs.FaultOutcome.{outcome_of_fault, outcome_of_open, outcome_of_read};
+    ghost use Rattle.poet_top.specs.FaultOutcome.{outcome_of_fault, outcome_of_open, IsFaultOf};
     ghost use Rattle.poet_top.specs.Outcome.{status_of, text_of_outcome};
 
     /// The fault where the file of this name wasn't opened.
@@ -35,14 +38,13 @@ impl<'a> Fault<'a> {
         }
     }
 
-    /// The fault where the file of this name wasn't read whole.
-    pub fn of_read(error: ReadAllError, name: &'a str) -> Fault<'a>
-        ensures { outcome_of_fault result ≡ outcome_of_read error name.now }
+    /// The fault where a reader refused a line, or had no memory.
+    pub fn of_line(error: LineError) -> Fault<'a>
+        ensures { IsFaultOf error result }
     {
-        match error {
-            ReadAllError::Failed => Fault::Read(name),
-            ReadAllError::TooLong => Fault::Line,
-            ReadAllError::Oom => Fault::Memory,
+        match error.cause {
+            LineCause::Oom => Fault::Memory,
+            _ => Fault::Line(error),
         }
     }
 
@@ -53,7 +55,7 @@ impl<'a> Fault<'a> {
         match self {
             Fault::Words => 1,
             Fault::Open(_) | Fault::Read(_) => 2,
-            Fault::Line => 6,
+            Fault::Line(_) => 6,
             Fault::Memory => 7,
             Fault::Full => 8,
         }
@@ -70,14 +72,14 @@ impl<'a> Fault<'a> {
             Fault::Words => put(out, b"poet: words\n"),
             Fault::Open(name) => put_named(out, b"poet: open ", name),
             Fault::Read(name) => put_named(out, b"poet: read ", name),
-            Fault::Line => put(out, b"poet: line\n"),
+            Fault::Line(error) => put_line_error(out, error),
             Fault::Memory => put(out, b"poet: memory\n"),
             Fault::Full => put(out, b"poet: full\n"),
         }
     }
 }
 
-/// Writes a line that ends with a name.
+/// Writes a line that ends with a name, or the last part of one.
 fn put_named<K: Sink>(out: &mut K, what: &[u8], name: &str) -> Result<(), Failed>
     ensures all { OnOk result (Grows (K.taken out.old) (K.taken out.new) (what.now ++ name.now ++ codes "\n")) }
     ensures part { OnErr result (GrowsByFront (K.taken out.old) (K.taken out.new) (what.now ++ name.now ++ codes "\n")) }
@@ -87,4 +89,16 @@ fn put_named<K: Sink>(out: &mut K, what: &[u8], name: &str) -> Result<(), Failed
     put(out, what)?;
     put(out, name.as_bytes())?;
     put(out, b"\n")
+}
+
+/// Writes the line that says what is wrong with a line.
+fn put_line_error<K: Sink>(out: &mut K, error: &LineError) -> Result<(), Failed>
+    ensures all { OnOk result (Grows (K.taken out.old) (K.taken out.new) (text_of_outcome (BadLine error.now))) }
+    ensures part { OnErr result (GrowsByFront (K.taken out.old) (K.taken out.new) (text_of_outcome (BadLine error.now))) }
+    ensures no_fault { OnOk result (K.faults out.new ≡ K.faults out.old) }
+    ensures fault { OnErr result (IsRaised (K.faults out.old) (K.faults out.new)) }
+{
+    put(out, b"poet: line ")?;
+    put_number(out, error.line)?;
+    put_named(out, b" ", error.cause.name())
 }

@@ -2,12 +2,16 @@
 //! writes the outcome to a sink.
 #![tactic(auto)]
 
+pub use law::bytes_end_in_one_way;
 pub use top::poet_still;
 
 mod answer;
 mod ask;
 mod fault;
+mod law;
+mod number;
 mod plan;
+mod taking;
 #[cfg(test)]
 mod tests;
 mod top;

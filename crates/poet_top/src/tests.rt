@@ -3,12 +3,11 @@
 
 ghost use Rattle.std.specs.Prelude.{◌≡◌, ◌<◌, IfOk};
 
-use crate::ask::offer_all;
-use crate::fault::Fault;
 use crate::poet_still;
+use crate::taking::offer;
 use causal_base::{Answer, EventId, Kind, Plain, Text, TypeRow, Types, id_of};
 use poet_io::{MemFolder, MemSink};
-use raw_reader::read_lines;
+use raw_reader::event_of;
 use std::alloc::{AllocError, Global};
 use std::test::Fail;
 
@@ -53,11 +52,11 @@ const MESSAGE: &str = "0.1 s - 5\n1.1 r 0.1 6\n";
 /// Partners, and an event before one of them.
 const PARTNERS: &str = "0.1 u - 1\n0.2 y 2.1 2\n2.1 y 0.2 3\n";
 
-/// A line that no event is spelled like.
+/// A text that ends within its second line.
 const DAMAGED: &str = "0.1 s - 5\n1.1 r 0.1 6";
 
 /// Words, the text of the file `e.txt`, and the status and the text that come.
-const ASKED: [(&[&str], &str, u8, &str); 24] = [
+const ASKED: [(&[&str], &str, u8, &str); 27] = [
     (&["ask", "e.txt", "0.1", "1.1"], MESSAGE, 0, "yes\n"),
     (&["ask", "e.txt", "0.1", "2.1"], MESSAGE, 0, "notyet 2.1\n"),
     (&["ask", "e.txt", "0.1", "0.1"], MESSAGE, 0, "no\n"),
@@ -127,9 +126,39 @@ const ASKED: [(&[&str], &str, u8, &str); 24] = [
         2,
         "poet: open closed.txt\n",
     ),
-    (&["ask", "e.txt", "0.1", "1.1"], DAMAGED, 6, "poet: line\n"),
-    (&["ask", "e.txt", "0.1", "1.1"], ".\n", 6, "poet: line\n"),
-    (&["ask", "e.txt", "0.1", "1.1"], "\n", 6, "poet: line\n"),
+    (
+        &["ask", "e.txt", "0.1", "1.1"],
+        DAMAGED,
+        6,
+        "poet: line 2 Unended\n",
+    ),
+    (
+        &["ask", "e.txt", "0.1", "1.1"],
+        "\n",
+        6,
+        "poet: line 1 Shape\n",
+    ),
+    (
+        &["ask", "e.txt", "0.1", "1.1"],
+        "0.1 u - 1\n.\n0.2 u - 2",
+        6,
+        "poet: line 3 Unended\n",
+    ),
+    // Full stops close batches, and say nothing of the answer.
+    (&["ask", "e.txt", "0.1", "1.1"], ".\n", 0, "notyet 0.1\n"),
+    (
+        &["ask", "e.txt", "0.1", "1.1"],
+        ".\n1.1 r 0.1 6\n.\n.\n0.1 s - 5\n",
+        0,
+        "yes\n",
+    ),
+    // Of events with one id the first counts, whether the others are repeats or clashes.
+    (
+        &["ask", "e.txt", "0.1", "0.2"],
+        "0.1 u - 1\n0.1 u - 1\n0.1 u - 2\n.\n0.2 u - 3\n0.2 s - 3\n",
+        0,
+        "yes\n",
+    ),
 ];
 
 #[test]
@@ -150,22 +179,22 @@ fn reads_fail(rt: HostRuntime) -> Result<(), Fail> {
     let alloc = rt.alloc();
     let words = ["ask", "e.txt", "0.1", "0.1"];
     let long = text_of_repeats(alloc, 600)?;
-    let cases: [(&[u8], u64, bool); 7] = [
-        (b"0.1 u - 0\n", 1, true),
-        (b"0.1 u - 0\n", 2, true),
-        (b"0.1 u - 0\n", 3, false),
-        (&long, 1, true),
-        (&long, 2, true),
-        (&long, 3, true),
-        (&long, 4, false),
+    let mut bad = Vec::from_slice(alloc, b"x\n")?;
+    bad.extend_from_slice(&long)?;
+    // The first fault counts in the order of reading.
+    let cases: [(&[u8], u64, u8, &str); 9] = [
+        (b"0.1 u - 0\n", 1, 2, "poet: read e.txt\n"),
+        (b"0.1 u - 0\n", 2, 2, "poet: read e.txt\n"),
+        (b"0.1 u - 0\n", 3, 0, "no\n"),
+        (&long, 1, 2, "poet: read e.txt\n"),
+        (&long, 2, 2, "poet: read e.txt\n"),
+        (&long, 3, 2, "poet: read e.txt\n"),
+        (&long, 4, 0, "no\n"),
+        (&bad, 1, 2, "poet: read e.txt\n"),
+        (&bad, 2, 6, "poet: line 1 Shape\n"),
     ];
-    for (text, read, fails) in cases {
+    for (text, read, told, written) in cases {
         let (status, out) = run(alloc, &words, text, &[read], ROOM, &[])?;
-        let (told, written) = if fails {
-            (2, "poet: read e.txt\n")
-        } else {
-            (0, "no\n")
-        };
         assert_eq!(rt; status, told, "at read {read}");
         assert_eq!(rt; out.bytes(), written.as_bytes(), "at read {read}");
     }
@@ -214,22 +243,44 @@ fn text_of_repeats(alloc: Global, lines: usize) -> Result<Vec<u8>, AllocError> {
     Ok(text)
 }
 
+/// Lines of so many unary events of one trace, numbered from 1.
+fn text_of_events(alloc: Global, count: u32) -> Result<Vec<u8>, AllocError> {
+    let mut text = Vec::new(alloc);
+    for number in 0..count {
+        let number = number.saturating_add(1);
+        text.extend_from_slice(format!(in alloc; "0.{number} u - 0\n")?.as_bytes())?;
+    }
+    Ok(text)
+}
+
 #[test]
-fn limits_hold(rt: HostRuntime) -> Result<(), Fail> {
+fn takes_no_more_than_its_limit(rt: HostRuntime) -> Result<(), Fail> {
     let alloc = rt.alloc();
-    let words = ["ask", "e.txt", "0.1", "0.1"];
-    let cases: [(&str, usize, u8, &str); 3] = [
-        ("0.1 u - 0 texts\n", 65_536, 0, "no\n"),
-        ("0.1 u - 0 longer\n", 65_537, 6, "poet: line\n"),
-        ("0.1 u - 0 text\n0", 65_536, 6, "poet: line\n"),
+    let words = ["ask", "e.txt", "0.1", "0.10000"];
+    // The thousandth event of a batch closes it, and a fault loses the events of the open one.
+    let cases: [(u32, &str, u8, &str); 6] = [
+        (10_000, "", 0, "yes\n"),
+        (10_000, "0.1 u - 0\n0.1 s - 0\n", 0, "yes\n"),
+        (10_000, "1.1 u - 0\n", 8, "poet: full\n"),
+        (10_000, "1.1 u - 0\nx\n", 6, "poet: line 10002 Shape\n"),
+        (10_000, "1.1 u - 0\n.\nx\n", 8, "poet: full\n"),
+        (
+            9_999,
+            "x\n1.1 u - 0\n1.2 u - 0\n",
+            6,
+            "poet: line 10000 Shape\n",
+        ),
     ];
-    for (last, size, told, written) in cases {
-        let mut text = text_of_repeats(alloc, 6552)?;
+    for (count, last, told, written) in cases {
+        let mut text = text_of_events(alloc, count)?;
         text.extend_from_slice(last.as_bytes())?;
-        assert_eq!(rt; text.len(), size);
         let (status, out) = run(alloc, &words, &text, &[], ROOM, &[])?;
-        assert_eq!(rt; status, told, "{last}");
-        assert_eq!(rt; out.bytes(), written.as_bytes(), "{last}");
+        assert_eq!(rt; status, told, "{count} events and {last}");
+        assert_eq!(rt;
+            out.bytes(),
+            written.as_bytes(),
+            "{count} events and {last}"
+        );
     }
     Ok(())
 }
@@ -257,16 +308,34 @@ fn row(alloc: Global, name: &[u8], kind: Kind, mate: Option<u8>) -> Result<TypeR
 }
 
 /// A plain list to which the events of these lines were offered.
-fn plain_of(alloc: Global, text: &[u8]) -> Result<Option<Plain>, AllocError> {
+fn plain_of(alloc: Global, text: &str) -> Result<Option<Plain>, AllocError> {
     let types = types_of_all_kinds(alloc)?;
-    let Some(events) = read_lines(alloc, text, &types)? else {
-        return Ok(None);
-    };
-    let mut plain = Plain::new(alloc, types);
-    match offer_all(&mut plain, events) {
-        Ok(()) => Ok(Some(plain)),
-        Err(_) => Ok(None),
+    let mut plain = Plain::new(alloc, types.copy(alloc)?);
+    if offer_lines(alloc, &types, &mut plain, text)? {
+        Ok(Some(plain))
+    } else {
+        Ok(None)
     }
+}
+
+/// Offers the events of these lines, and says whether each line was one and none was refused.
+fn offer_lines(
+    alloc: Global,
+    types: &Types,
+    plain: &mut Plain,
+    text: &str,
+) -> Result<bool, AllocError>
+    requires { plain.old.types ≡ types.now }
+{
+    for line in text.lines() {
+        let Some(event) = event_of(alloc, line.as_bytes(), types)? else {
+            return Ok(false);
+        };
+        if offer(plain, event).is_err() {
+            return Ok(false);
+        }
+    }
+    Ok(true)
 }
 
 /// Whether the delivered events with numbers 1 to 4 are just these.
@@ -517,33 +586,11 @@ const CASES: [(&str, &str, &str); 39] = [
 fn delivers_by_cause(rt: HostRuntime) -> Result<(), Fail> {
     let alloc = rt.alloc();
     for (text, delivered, questions) in CASES {
-        let plain = plain_of(alloc, text.as_bytes())?.ok_or("the lines are refused")?;
+        let plain = plain_of(alloc, text)?.ok_or("the lines are refused")?;
         assert!(rt; delivers_just(&plain, delivered), "{text}");
         for line in questions.lines() {
             assert!(rt; answers_so(alloc, &plain, line)?, "{line} over {text}");
         }
     }
-    Ok(())
-}
-
-#[test]
-fn takes_no_more_than_its_limit(rt: HostRuntime) -> Result<(), Fail> {
-    let alloc = rt.alloc();
-    let mut text = Vec::new(alloc);
-    for number in 1..10_001u32 {
-        text.extend_from_slice(format!(in alloc; "0.{number} u - 0\n")?.as_bytes())?;
-    }
-    let full = plain_of(alloc, &text)?.ok_or("10,000 events are refused")?;
-    let last = EventId {
-        trace: 0,
-        number: 10_000,
-    };
-    assert!(rt; full.event(last).is_some());
-
-    text.extend_from_slice(b"0.1 u - 0\n1.1 u - 0\n")?;
-    let types = types_of_all_kinds(alloc)?;
-    let events = read_lines(alloc, &text, &types)?.ok_or("the lines are refused")?;
-    let mut plain = Plain::new(alloc, types);
-    assert_eq!(rt; offer_all(&mut plain, events), Err(Fault::Full));
     Ok(())
 }

@@ -22,9 +22,9 @@ const WRITE_FAILED: u8 = 3;
 ///
 /// The words `ask EVENTS A B` ask whether the event A happened before the event B, over the events of
 /// the file EVENTS. A status other than 0 has one line written that says why: 1 where the words
-/// aren't these, 2 where the file is absent, doesn't open or can't be read, 6 where it has more
-/// than 65,536 bytes or a line that is no event, 7 where memory ran out, 8 where it
-/// has more than 10,000 events. The status is 3 where a write failed.
+/// aren't these, 2 where the file is absent, doesn't open or can't be read, 6 with the first line that is no
+/// event and what is wrong with it, 7 where memory ran out, 8 where its events have more than 10,000 different
+/// ids. The file may have up to 1,073,741,824 bytes. The status is 3 where a write failed.
 pub fn poet_still<F: Files, K: Sink>(
     alloc: Global,
     words: &[String],

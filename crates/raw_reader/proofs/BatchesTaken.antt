@@ -3,7 +3,8 @@ use Rattle.std.proofs.Common.{◌≡◌, ◌⊎◌, ℕ, inl, inr, List, [], ◌
 use Rattle.std.specs.Prelude.{MatchOption, IfSome, option_to_list}
 use Rattle.causal_base.specs.declared.event.Event.{Event}
 use Rattle.raw_reader.specs.declared.cause.LineError.{LineError}
-use Rattle.raw_reader.specs.ReaderState.{ReaderState, ReadsOn, RanOut, MetFault, StandsFor, ReadAll, MetEnd, StandsAtEnd}
+use Rattle.raw_reader.specs.ReaderState.{ReaderState, ReadsOn, RanOut, MetFault, StandsFor, StandsAtEnd}
+use Rattle.raw_reader.specs.Texts.{HasClosed, IsGoodText, HasFault}
 
 module _ (reader : ReaderState) (fed : List ℕ) (taken : List (List Event)) (batch : List Event) (rest : List (List Event)) (is : reader.waiting ≡ batch ∷ rest) where
   -- the reader without its oldest batch, and the batches with it
@@ -30,24 +31,10 @@ module _ (reader : ReaderState) (fed : List ℕ) (taken : List (List Event)) (ba
   }
 
   ran_out : (error : LineError) → RanOut reader fed taken error → RanOut later fed now error
-  ran_out error out = record {
-    cause = out.cause;
-    lines = out.lines;
-    fit = out.fit;
-    rest = out.rest;
-    fed_is = out.fed_is;
-    lost = out.lost;
-    batches = out.batches ∙ ap (λ c. c ++ out.lost) moved;
-  }
+  ran_out error out = (out.0, subst (HasClosed reader.types fed) moved out.1)
 
   met_fault : (error : LineError) → MetFault reader fed taken error → MetFault later fed now error
   met_fault error met = record { lines = met.lines; fault = met.fault; batches = met.batches ∙ moved }
-
-  met_end : (error : LineError) → MetEnd reader fed taken error → MetEnd later fed now error
-  met_end error met = record { lines = met.lines; fault = met.fault; batches = met.batches ∙ moved }
-
-  read_all : ReadAll reader fed taken → ReadAll later fed now
-  read_all all = record { lines = all.lines; fit = all.fit; fed_is = all.fed_is; within = all.within; batches = all.batches ∙ moved }
 
   stays : (refusal : Option LineError) → MatchOption refusal (ReadsOn reader fed taken) (λ error. RanOut reader fed taken error ⊎ MetFault reader fed taken error)
       → MatchOption refusal (ReadsOn later fed now) (λ error. RanOut later fed now error ⊎ MetFault later fed now error)
@@ -57,12 +44,12 @@ module _ (reader : ReaderState) (fed : List ℕ) (taken : List (List Event)) (ba
   pub stands_taken : StandsFor reader fed taken → StandsFor later fed now
   stands_taken stands = stays reader.refusal stands
 
-  stays_at_end : (refusal : Option LineError) → MatchOption refusal (ReadAll reader fed taken) (λ error. RanOut reader fed taken error ⊎ (MetFault reader fed taken error ⊎ MetEnd reader fed taken error))
-      → MatchOption refusal (ReadAll later fed now) (λ error. RanOut later fed now error ⊎ (MetFault later fed now error ⊎ MetEnd later fed now error))
-  stays_at_end None all = read_all all
+  stays_at_end : (refusal : Option LineError) → MatchOption refusal (IsGoodText reader.types fed (taken ++ reader.waiting)) (λ error. RanOut reader fed taken error ⊎ HasFault reader.types fed (taken ++ reader.waiting) error)
+      → MatchOption refusal (IsGoodText reader.types fed (now ++ rest)) (λ error. RanOut later fed now error ⊎ HasFault reader.types fed (now ++ rest) error)
+  stays_at_end None good = subst (IsGoodText reader.types fed) moved good
   stays_at_end (Some error) refused = elim refused [
     | inl out ↦ inl (ran_out error out)
-    | inr met ↦ inr (elim met [ inl fault ↦ inl (met_fault error fault) | inr end ↦ inr (met_end error end) ])
+    | inr met ↦ inr (subst (λ batches. HasFault reader.types fed batches error) moved met)
   ]
 
   pub ended_taken : StandsAtEnd reader fed taken → StandsAtEnd later fed now

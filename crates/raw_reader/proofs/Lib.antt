@@ -2,9 +2,11 @@ pub mod Visible
 pub mod Splitting
 pub mod Spelled
 pub mod Exits
-pub mod Reading
 pub mod FirstFaults
 pub mod ReaderSteps
 pub mod BatchesTaken
 pub mod LinesOnce
 pub mod FaultsOnce
+pub mod BatchesFit
+pub mod TextsOnce
+pub mod ClosedFronts

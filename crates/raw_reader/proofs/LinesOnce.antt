@@ -58,14 +58,14 @@ no_stop : (types : TypeTable) (e : Event) → codes "." ≡ spelling types e →
 no_stop types e same = has_none 32 (codes ".") (id_text e.id) _ (All-cons (λ b. b ≡ 32 → ⊥) 46 [] (λ is. cc) (All-nil (λ b. b ≡ 32 → ⊥))) same
 
 -- good lines with the same bytes are one
-line_once : (types : TypeTable) (a b : Line) → IsTypeTable types → IsFitLine types a → IsFitLine types b → line_bytes types a ≡ line_bytes types b → a ≡ b
+pub line_once : (types : TypeTable) (a b : Line) → IsTypeTable types → IsFitLine types a → IsFitLine types b → line_bytes types a ≡ line_bytes types b → a ≡ b
 line_once types stop stop table fit_a fit_b same = refl
 line_once types stop (says e) table fit_a fit_b same = absurd (no_stop types e same)
 line_once types (says e) stop table fit_a fit_b same = absurd (no_stop types e (sym same))
 line_once types (says e) (says f) table fit_a fit_b same = ap says (event_once types e f table fit_a fit_b same)
 
 -- a good line has no line feed
-line_is_one : (types : TypeTable) (line : Line) → IsTypeTable types → IsFitLine types line → IsOneLine (line_bytes types line)
+pub line_is_one : (types : TypeTable) (line : Line) → IsTypeTable types → IsFitLine types line → IsOneLine (line_bytes types line)
 line_is_one types stop table fit has = elim (Contains-cons 46 [] 10 has) [ inl is ↦ cc | inr none ↦ absurd (Contains-nil 10 none) ]
 line_is_one types (says e) table fit has = spelling_one_line types e table fit has
 
@@ -77,7 +77,7 @@ pub record BeginsWell (types : TypeTable) (bytes : List ℕ) : Type 0 where
   pub is : bytes ≡ line_bytes types line ++ 10 ∷ rest
 
 -- lines before others
-text_of_first : (types : TypeTable) (line : Line) (lines : List Line) (tail : List ℕ) → text_of_lines types (line ∷ lines) ++ tail ≡ line_bytes types line ++ 10 ∷ (text_of_lines types lines ++ tail)
+pub text_of_first : (types : TypeTable) (line : Line) (lines : List Line) (tail : List ℕ) → text_of_lines types (line ∷ lines) ++ tail ≡ line_bytes types line ++ 10 ∷ (text_of_lines types lines ++ tail)
 text_of_first types line lines tail =
     append_assoc (line_bytes types line ++ 10 ∷ []) (text_of_lines types lines) tail ∙ append_assoc (line_bytes types line) (10 ∷ []) (text_of_lines types lines ++ tail)
 

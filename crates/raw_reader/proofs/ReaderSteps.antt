@@ -15,8 +15,8 @@ use Rattle.raw_reader.specs.declared.cause.LineCause.TheVariants.{TooLarge, Long
 use Rattle.raw_reader.specs.declared.cause.LineError.{LineError}
 use Rattle.raw_reader.specs.Causes.{IsCause}
 use Rattle.raw_reader.specs.Parts.{IsOneLine}
-use Rattle.raw_reader.specs.Texts.{Line, stop, says, line_bytes, IsFitLine, text_of_lines, Batches, piece_of, closed_off, batches_with, batches_from, most_in_batch, most_text, most_line, IsTailCause, IsKnownAfter}
-use Rattle.raw_reader.specs.ReaderState.{ReaderState, ReadsOn, RanOut, MetFault, StandsFor, ReadAll, MetEnd, StandsAtEnd}
+use Rattle.raw_reader.specs.Texts.{Line, stop, says, line_bytes, IsFitLine, text_of_lines, Batches, piece_of, closed_off, batches_with, batches_from, most_in_batch, most_text, most_line, IsTailCause, IsKnownAfter, HasClosed, IsGoodText, HasFault}
+use Rattle.raw_reader.specs.ReaderState.{ReaderState, ReadsOn, RanOut, MetFault, StandsFor, StandsAtEnd}
 
 -- bytes that stand within the most
 visible : (bytes : List ℕ) → length bytes ≤ most_text → take most_text bytes ≡ bytes
@@ -97,18 +97,21 @@ with_behind : (taken : List (List Event)) (batches : Batches) (line : Line) → 
 with_behind taken batches stop = closed_behind taken batches
 with_behind taken batches (says e) = by_length taken (record { closed = batches.closed; begun = batches.begun ++ e ∷ [] }) (length (batches.begun ++ e ∷ []) == most_in_batch)
 
+-- batches that are closed stay so, whatever follows
+pub closed_stays : (types : TypeTable) (fed more : List ℕ) (batches : List (List Event)) → HasClosed types fed batches → HasClosed types (fed ++ more) batches
+closed_stays types fed more batches has = record {
+  lines = has.lines;
+  fit = has.fit;
+  rest = has.rest ++ more;
+  whole = ap (λ b. b ++ more) has.whole ∙ append_assoc (text_of_lines types has.lines) has.rest more;
+  within = has.within;
+  closed = has.closed;
+}
+
 -- what a reader stands for where a byte follows a refusal
 pub refused_stays : (reader : ReaderState) (fed : List ℕ) (taken : List (List Event)) (byte : ℕ) (error : LineError) → RanOut reader fed taken error ⊎ MetFault reader fed taken error → RanOut reader (fed ++ byte ∷ []) taken error ⊎ MetFault reader (fed ++ byte ∷ []) taken error
 refused_stays reader fed taken byte error refused = elim refused [
-  | inl out ↦ inl (record {
-    cause = out.cause;
-    lines = out.lines;
-    fit = out.fit;
-    rest = out.rest ++ byte ∷ [];
-    fed_is = ap (λ b. b ++ byte ∷ []) out.fed_is ∙ append_assoc (text_of_lines reader.types out.lines) out.rest (byte ∷ []);
-    lost = out.lost;
-    batches = out.batches;
-  })
+  | inl out ↦ inl (out.0, closed_stays reader.types fed (byte ∷ []) (taken ++ reader.waiting) out.1)
   | inr met ↦ inr (record { lines = met.lines; fault = known_stays reader.types fed byte met.lines error met.fault; batches = met.batches })
 ]
 
@@ -198,17 +201,21 @@ module _ (reader : ReaderState) (fed : List ℕ) (taken : List (List Event)) (on
       fit_more [] fits = (fit, tt)
       fit_more (first ∷ lines) fits = (fits.0, fit_more lines fits.1)
 
+  -- the batches that its lines closed
+  pub has_closed : HasClosed reader.types fed (taken ++ reader.waiting)
+  has_closed = record {
+    lines = on.lines;
+    fit = on.fit;
+    rest = reader.tail;
+    whole = on.fed_is;
+    within = (let sizes = ap length on.fed_is ∙ length-append (text_of_lines reader.types on.lines) reader.tail in let within = on.within in omega (arith, sizes, within));
+    closed = ap (λ (b : Batches). b.closed) on.batches;
+  }
+
   -- no memory for what the byte brings
   pub ran_out : (later : ReaderState) (byte : ℕ) (error : LineError) → later.types ≡ reader.types → later.waiting ≡ reader.waiting → error.cause ≡ Oom → RanOut later (fed ++ byte ∷ []) taken error
-  ran_out later byte error types waiting cause = record {
-    cause = cause;
-    lines = on.lines;
-    fit = subst (λ t. AllByRecursion (IsFitLine t) on.lines) (sym types) on.fit;
-    rest = reader.tail ++ byte ∷ [];
-    fed_is = whole byte ∙ ap (λ t. text_of_lines t on.lines ++ (reader.tail ++ byte ∷ [])) (sym types);
-    lost = piece_of reader.begun;
-    batches = ap (λ (b : Batches). b.closed ++ piece_of b.begun) on.batches ∙ ap (λ w. (taken ++ w) ++ piece_of reader.begun) (sym waiting);
-  }
+  ran_out later byte error types waiting cause =
+      (cause, closed_stays later.types fed (byte ∷ []) (taken ++ later.waiting) (subst (λ t. HasClosed t fed (taken ++ later.waiting)) (sym types) (subst (λ w. HasClosed reader.types fed (taken ++ w)) (sym waiting) has_closed)))
 
 -- a reader that goes on, and one that was refused
 pub goes_on : (reader : ReaderState) (fed : List ℕ) (taken : List (List Event)) → reader.refusal ≡ None → StandsFor reader fed taken → ReadsOn reader fed taken
@@ -249,9 +256,9 @@ out_at reader fed taken on byte later error some cause types waiting =
 pub ends_within : (reader : ReaderState) (fed : List ℕ) (taken : List (List Event)) → ReadsOn reader fed taken → reader.tail ≢ [] → (later : ReaderState)
     → later ≡ record reader { begun = []; refusal = Some (record { line = reader.lines + 1; cause = Unended }) } → StandsAtEnd later fed taken
 ends_within reader fed taken on some later is =
-    subst (λ r. StandsAtEnd r fed taken) (sym is) (inr (inr (record {
+    subst (λ r. StandsAtEnd r fed taken) (sym is) (inr (record {
       lines = on.lines;
-      fault = record {
+      fault = inr (record {
         fit = on.fit;
         tail = reader.tail;
         within = on.within;
@@ -261,32 +268,44 @@ ends_within reader fed taken on some later is =
         short = on.short;
         line_is = ap (λ n. n + 1) on.count_is;
         cause = refl;
-      };
-      batches = ap (λ (b : Batches). b.closed) on.batches;
-    })))
+      });
+      closed = ap (λ (b : Batches). b.closed) on.batches;
+    }))
+
+-- a text that has ended and was refused
+refused_at_end : (reader : ReaderState) (fed : List ℕ) (taken : List (List Event)) (error : LineError) → reader.refusal ≡ Some error
+    → RanOut reader fed taken error ⊎ HasFault reader.types fed (taken ++ reader.waiting) error → StandsAtEnd reader fed taken
+refused_at_end reader fed taken error some why = subst (λ o. MatchOption o (IsGoodText reader.types fed (taken ++ reader.waiting)) (λ e. RanOut reader fed taken e ⊎ HasFault reader.types fed (taken ++ reader.waiting) e)) (sym some) why
+
+-- a refusal from before the end
+pub ends_refused : (reader : ReaderState) (fed : List ℕ) (taken : List (List Event)) (refusal : Option LineError) → is_some refusal ≡ true
+    → MatchOption refusal (ReadsOn reader fed taken) (λ error. RanOut reader fed taken error ⊎ MetFault reader fed taken error)
+    → MatchOption refusal (IsGoodText reader.types fed (taken ++ reader.waiting)) (λ error. RanOut reader fed taken error ⊎ HasFault reader.types fed (taken ++ reader.waiting) error)
+ends_refused reader fed taken None some stands = cc
+ends_refused reader fed taken (Some error) some stands = elim stands [
+  | inl out ↦ inl out
+  | inr met ↦ inr (record { lines = met.lines; fault = inl met.fault; closed = met.batches })
+]
 
 -- no memory for the last batch
 pub ends_out : (reader : ReaderState) (fed : List ℕ) (taken : List (List Event)) → ReadsOn reader fed taken → (later : ReaderState) (error : LineError)
     → later.refusal ≡ Some error → error.cause ≡ Oom → later.types ≡ reader.types → later.waiting ≡ reader.waiting → StandsAtEnd later fed taken
 ends_out reader fed taken on later error some cause types waiting =
-    subst (λ o. MatchOption o (ReadAll later fed taken) (λ e. RanOut later fed taken e ⊎ (MetFault later fed taken e ⊎ MetEnd later fed taken e))) (sym some) (inl (record {
-      cause = cause;
-      lines = on.lines;
-      fit = subst (λ t. AllByRecursion (IsFitLine t) on.lines) (sym types) on.fit;
-      rest = reader.tail;
-      fed_is = on.fed_is ∙ ap (λ t. text_of_lines t on.lines ++ reader.tail) (sym types);
-      lost = piece_of reader.begun;
-      batches = ap (λ (b : Batches). b.closed ++ piece_of b.begun) on.batches ∙ ap (λ w. (taken ++ w) ++ piece_of reader.begun) (sym waiting);
-    }))
+    refused_at_end later fed taken error some (inl (
+      cause,
+      subst (λ t. HasClosed t fed (taken ++ later.waiting)) (sym types)
+          (subst (λ w. HasClosed reader.types fed (taken ++ w)) (sym waiting) (has_closed reader fed taken on)),
+    ))
 
 -- the end of a text of good lines
 pub ends_well : (reader : ReaderState) (fed : List ℕ) (taken : List (List Event)) → ReadsOn reader fed taken → reader.tail ≡ [] → (later : ReaderState)
     → later.refusal ≡ None → later.types ≡ reader.types → later.waiting ≡ reader.waiting ++ piece_of reader.begun → StandsAtEnd later fed taken
 ends_well reader fed taken on none later going types waiting =
-    subst (λ o. MatchOption o (ReadAll later fed taken) (λ e. RanOut later fed taken e ⊎ (MetFault later fed taken e ⊎ MetEnd later fed taken e))) (sym going) (record {
+    subst (λ o. MatchOption o (IsGoodText later.types fed (taken ++ later.waiting)) (λ e. RanOut later fed taken e ⊎ HasFault later.types fed (taken ++ later.waiting) e)) (sym going)
+    (subst (λ t. IsGoodText t fed (taken ++ later.waiting)) (sym types) (record {
       lines = on.lines;
-      fit = subst (λ t. AllByRecursion (IsFitLine t) on.lines) (sym types) on.fit;
-      fed_is = on.fed_is ∙ (ap (λ t. text_of_lines reader.types on.lines ++ t) none ∙ (append-nil (text_of_lines reader.types on.lines) ∙ ap (λ t. text_of_lines t on.lines) (sym types)));
+      fit = on.fit;
+      whole = on.fed_is ∙ (ap (λ t. text_of_lines reader.types on.lines ++ t) none ∙ append-nil (text_of_lines reader.types on.lines));
       within = on.within;
-      batches = ap (λ (b : Batches). b.closed ++ piece_of b.begun) on.batches ∙ (append_assoc taken reader.waiting (piece_of reader.begun) ∙ ap (λ w. taken ++ w) (sym waiting));
-    })
+      closed = ap (λ (b : Batches). b.closed ++ piece_of b.begun) on.batches ∙ (append_assoc taken reader.waiting (piece_of reader.begun) ∙ ap (λ w. taken ++ w) (sym waiting));
+    }))

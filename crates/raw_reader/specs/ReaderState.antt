@@ -5,7 +5,7 @@ use Rattle.causal_base.specs.Types.{TypeTable}
 use Rattle.raw_reader.specs.declared.cause.LineCause.TheVariants.{Oom}
 use Rattle.raw_reader.specs.declared.cause.LineError.{LineError}
 use Rattle.raw_reader.specs.Parts.{IsOneLine}
-use Rattle.raw_reader.specs.Texts.{Line, IsFitLine, text_of_lines, batches_of, closed_off, most_text, most_line, IsKnownAfter, IsUnendedAfter}
+use Rattle.raw_reader.specs.Texts.{Line, IsFitLine, text_of_lines, batches_of, most_text, most_line, IsKnownAfter, HasClosed, IsGoodText, HasFault}
 
 -- what a reader keeps: the types, how many bytes it was fed and how many lines ended, the line and the batch that are open,
 -- the batches that wait, and the refusal, once there was one
@@ -30,15 +30,10 @@ pub record ReadsOn (reader : ReaderState) (fed : List ℕ) (taken : List (List E
   pub count_is : reader.lines ≡ length lines
   pub batches : batches_of lines ≡ record { closed = taken ++ reader.waiting; begun = reader.begun }
 
--- It ran out of memory, and the batches that were taken and that wait are the first that good lines close.
-pub record RanOut (reader : ReaderState) (fed : List ℕ) (taken : List (List Event)) (error : LineError) : Type 0 where
-  pub cause : error.cause ≡ Oom
-  pub lines : List Line
-  pub fit : AllByRecursion (IsFitLine reader.types) lines
-  pub rest : List ℕ
-  pub fed_is : fed ≡ text_of_lines reader.types lines ++ rest
-  pub lost : List (List Event)
-  pub batches : (closed_off (batches_of lines)).closed ≡ taken ++ reader.waiting ++ lost
+-- It ran out of memory, and the batches that were taken and that wait are those that good lines close, with which the text
+-- begins.
+abbrev pub RanOut : ReaderState → List ℕ → List (List Event) → LineError → Type 0
+RanOut reader fed taken error = (error.cause ≡ Oom) × HasClosed reader.types fed (taken ++ reader.waiting)
 
 -- It met the first fault, and the batches that were taken and that wait are those that the lines before it close.
 pub record MetFault (reader : ReaderState) (fed : List ℕ) (taken : List (List Event)) (error : LineError) : Type 0 where
@@ -51,21 +46,8 @@ abbrev pub StandsFor : ReaderState → List ℕ → List (List Event) → Type 0
 StandsFor reader fed taken = MatchOption reader.refusal (ReadsOn reader fed taken)
     (λ error. RanOut reader fed taken error ⊎ MetFault reader fed taken error)
 
--- The text has ended, and the batches that were taken and that wait are all of it: the last one is closed by the end.
-pub record ReadAll (reader : ReaderState) (fed : List ℕ) (taken : List (List Event)) : Type 0 where
-  pub lines : List Line
-  pub fit : AllByRecursion (IsFitLine reader.types) lines
-  pub fed_is : fed ≡ text_of_lines reader.types lines
-  pub within : length fed ≤ most_text
-  pub batches : (closed_off (batches_of lines)).closed ≡ taken ++ reader.waiting
-
--- The text ended within a line, and the batches that were taken and that wait are those that the lines before it close.
-pub record MetEnd (reader : ReaderState) (fed : List ℕ) (taken : List (List Event)) (error : LineError) : Type 0 where
-  pub lines : List Line
-  pub fault : IsUnendedAfter reader.types fed lines error
-  pub batches : (batches_of lines).closed ≡ taken ++ reader.waiting
-
--- The reader stands for a text that has ended.
+-- The reader stands for a text that has ended: the batches that were taken and that wait are all of it, or those before its
+-- first fault, or it ran out of memory.
 abbrev pub StandsAtEnd : ReaderState → List ℕ → List (List Event) → Type 0
-StandsAtEnd reader fed taken = MatchOption reader.refusal (ReadAll reader fed taken)
-    (λ error. RanOut reader fed taken error ⊎ (MetFault reader fed taken error ⊎ MetEnd reader fed taken error))
+StandsAtEnd reader fed taken = MatchOption reader.refusal (IsGoodText reader.types fed (taken ++ reader.waiting))
+    (λ error. RanOut reader fed taken error ⊎ HasFault reader.types fed (taken ++ reader.waiting) error)

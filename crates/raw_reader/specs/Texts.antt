@@ -104,3 +104,30 @@ pub record IsUnendedAfter (types : TypeTable) (bytes : List ℕ) (lines : List L
   pub short : length tail ≤ most_line
   pub line_is : error.line ≡ length lines + 1
   pub cause : error.cause ≡ Unended
+
+-- the events of batches
+abbrev pub events_of : List (List Event) → List Event
+events_of batches = flat_map (λ batch. batch) batches
+
+-- The text begins with good lines, within the most bytes, and they close these batches.
+pub record HasClosed (types : TypeTable) (bytes : List ℕ) (batches : List (List Event)) : Type 0 where
+  pub lines : List Line
+  pub fit : AllByRecursion (IsFitLine types) lines
+  pub rest : List ℕ
+  pub whole : bytes ≡ text_of_lines types lines ++ rest
+  pub within : length (text_of_lines types lines) ≤ most_text
+  pub closed : (batches_of lines).closed ≡ batches
+
+-- The whole text is good lines, and they and its end close these batches.
+pub record IsGoodText (types : TypeTable) (bytes : List ℕ) (batches : List (List Event)) : Type 0 where
+  pub lines : List Line
+  pub fit : AllByRecursion (IsFitLine types) lines
+  pub whole : bytes ≡ text_of_lines types lines
+  pub within : length bytes ≤ most_text
+  pub closed : (closed_off (batches_of lines)).closed ≡ batches
+
+-- The whole text has this first fault, and the good lines before it close these batches; the batch that is open is lost.
+pub record HasFault (types : TypeTable) (bytes : List ℕ) (batches : List (List Event)) (error : LineError) : Type 0 where
+  pub lines : List Line
+  pub fault : IsKnownAfter types bytes lines error ⊎ IsUnendedAfter types bytes lines error
+  pub closed : (batches_of lines).closed ≡ batches

@@ -1,3 +1,5 @@
+ghost use Rattle.std.specs.Prelude.{◌≡◌};
+
 /// What is wrong with a line of events, the first of these that applies.
 #[derive(Clone, Copy, Debug, PartialEq, Eq)]
 pub enum LineCause {
@@ -35,4 +37,29 @@ pub struct LineError {
     /// The number of the line, from 1. Every line counts.
     pub line: u64,
     pub cause: LineCause,
+}
+
+impl LineCause {
+    ghost use Rattle.raw_reader.specs.CauseNames.{cause_name};
+
+    /// The name that is printed.
+    pub fn name(&self) -> &'static str
+        ensures { result.now ≡ cause_name self.now }
+    {
+        match self {
+            LineCause::TooLarge => "TooLarge",
+            LineCause::LongLine => "LongLine",
+            LineCause::Unended => "Unended",
+            LineCause::Shape => "Shape",
+            LineCause::BadId => "BadId",
+            LineCause::NoTrace => "NoTrace",
+            LineCause::BadNumber => "BadNumber",
+            LineCause::NoType => "NoType",
+            LineCause::MateGiven => "MateGiven",
+            LineCause::MateMissing => "MateMissing",
+            LineCause::BadTime => "BadTime",
+            LineCause::LongText => "LongText",
+            LineCause::Oom => "Oom",
+        }
+    }
 }

@@ -1,4 +1,5 @@
 ghost use Rattle.std.specs.Prelude.{◌≡◌, ◌≢◌, ◌⊎◌, ◌+◌, ◌<◌, ◌≤◌, ◌++◌, ◌∷◌, [], codes, length, ℕ, List, None, Some, IfSome, IfNone, IfOk, IfErr, OnOk, OnErr};
+ghost use Rattle.std.specs.List.{AllByRecursion};
 ghost use Rattle.causal_base.specs.declared.event.Event.{Event};
 ghost use Rattle.causal_base.specs.Event.{IsFit};
 ghost use Rattle.causal_base.specs.Spelling.{spelling};
@@ -66,6 +67,7 @@ impl<'a> Reader<'a> {
     /// A reader that was fed nothing.
     pub fn new(alloc: Global, types: &'a Types) -> Reader<'a>
         ensures empty { StandsFor result [] [] }
+        ensures going { result.refusal ≡ None }
         ensures types { result.types ≡ types.now }
     {
         Reader {
@@ -141,7 +143,10 @@ impl<'a> Reader<'a> {
     pub fn take_batch(&mut self) -> Option<Batch>
         ensures some { IfSome result (λ batch. self.old.waiting ≡ batch ∷ self.new.waiting) }
         ensures none { IfNone result (self.old.waiting ≡ []) }
+        ensures same { IfNone result (self.new ≡ self.old) }
         ensures rest { self.new ≡ record self.old { waiting = self.new.waiting } }
+        ensures fit { IfSome result (λ batch. (fed : List ℕ) (taken : List (List Event))
+            → StandsFor self.old fed taken ⊎ StandsAtEnd self.old fed taken → AllByRecursion (IsFit self.old.types) batch) }
         ensures stands { IfSome result (λ batch. (fed : List ℕ) (taken : List (List Event))
             → StandsFor self.old fed taken → StandsFor self.new fed (taken ++ batch ∷ [])) }
         ensures at_end { IfSome result (λ batch. (fed : List ℕ) (taken : List (List Event))

@@ -1,6 +1,6 @@
 ghost use Rattle.std.specs.Prelude.{◌<◌};
 
-use crate::{LineCause, LineError, Reader, event_of, read_lines};
+use crate::{LineCause, LineError, Reader, event_of};
 use causal_base::{Event, EventId, Types};
 use std::alloc::{AllocError, Global};
 use std::process::Abort;
@@ -84,43 +84,6 @@ fn refuses_all_else(rt: HostRuntime) -> Result<(), Fail> {
     ];
     for line in lines {
         assert!(rt; event_of(rt.alloc(), line, &types)?.is_none(), "{line:?}");
-    }
-    Ok(())
-}
-
-#[test]
-fn reads_ended_lines(rt: HostRuntime) -> Result<(), Fail> {
-    let types = Types::builtin(rt.alloc(), 7)?;
-
-    let none = read_lines(rt.alloc(), b"", &types)?.ok_or("no line is refused")?;
-    assert!(rt; none.as_slice().is_empty());
-
-    let two = read_lines(rt.alloc(), b"0.1 s - 5\n1.1 r 0.1 6 x\n", &types)?.ok_or(
-        "two lines are refused",
-    )?;
-    assert_eq!(rt; two.as_slice().len(), 2);
-    assert_event(&rt, &two.as_slice()[0], id(0, 1), 1, None, 5, b"");
-    assert_event(
-        &rt,
-        &two.as_slice()[1],
-        id(1, 1),
-        2,
-        Some(id(0, 1)),
-        6,
-        b"x",
-    );
-
-    let refused: [&[u8]; 4] = [
-        b"0.1 s - 5\n1.1 r 0.1 6",
-        b"0.1 s - 5\n\n1.1 r 0.1 6\n",
-        b"0.1 u - 1\r\n",
-        b"\n",
-    ];
-    for bytes in refused {
-        assert!(rt;
-            read_lines(rt.alloc(), bytes, &types)?.is_none(),
-            "{bytes:?}"
-        );
     }
     Ok(())
 }
@@ -238,6 +201,9 @@ const TEXTS: [(&str, &[usize], Option<(u64, LineCause)>); 36] = [
     ("0.1 u - 1 \u{e9}\n", &[1], None),
 ];
 
+/// A good line, and one that closes its batch.
+const FRONT: &[u8] = b"0.1 u - 1\n.\n";
+
 fn is_told(outcome: &Outcome, sizes: &[usize], error: Option<(u64, LineCause)>) -> bool {
     let error = match error {
         Some((line, cause)) => Some(LineError { line, cause }),
@@ -246,19 +212,41 @@ fn is_told(outcome: &Outcome, sizes: &[usize], error: Option<(u64, LineCause)>) 
     outcome.sizes.as_slice() == sizes && outcome.error == error
 }
 
+/// The same for a text behind `FRONT`: a batch of one event before the others, and two lines more.
+fn is_told_behind(outcome: &Outcome, sizes: &[usize], error: Option<(u64, LineCause)>) -> bool {
+    let Some((first, others)) = outcome.sizes.as_slice().split_first() else {
+        return false;
+    };
+    let error = match error {
+        Some((line, cause)) => Some(LineError {
+            line: line.saturating_add(2),
+            cause,
+        }),
+        None => None,
+    };
+    *first == 1 && others == sizes && outcome.error == error
+}
+
 #[test]
 fn reads_texts_in_any_pieces(rt: HostRuntime) -> Result<(), Fail> {
     let alloc = rt.alloc();
     let types = Types::builtin(alloc, 7)?;
     for (text, sizes, error) in TEXTS {
         let bytes = text.as_bytes();
-        for first in 0..bytes.len() + 1 {
-            for size in [1, bytes.len().max(1)] {
+        let mut behind = Vec::from_slice(alloc, FRONT)?;
+        behind.extend_from_slice(bytes)?;
+        for first in 0..behind.len() + 1 {
+            for size in [1, behind.len().max(1)] {
                 assert!(rt; size > 0);
                 let outcome = read_pieces(alloc, &types, bytes, first, size)?;
                 assert!(rt;
                     is_told(&outcome, sizes, error),
                     "{text} in pieces of {first} and {size}"
+                );
+                let outcome = read_pieces(alloc, &types, &behind, first, size)?;
+                assert!(rt;
+                    is_told_behind(&outcome, sizes, error),
+                    "{text} behind a line, in pieces of {first} and {size}"
                 );
             }
         }
@@ -296,15 +284,57 @@ fn reads_up_to_its_limits(rt: HostRuntime) -> Result<(), Fail> {
         if ends {
             text.push(b'\n')?;
         }
-        let outcome = read_pieces(alloc, &types, &text, 7, 64)?;
-        assert!(rt;
-            is_told(&outcome, &[], Some((1, cause))),
-            "a text of {length} bytes"
-        );
+        let mut behind = Vec::from_slice(alloc, FRONT)?;
+        behind.extend_from_slice(&text)?;
+        for (first, size) in [(0, 1), (7, 64), (400, 1000)] {
+            assert!(rt; size > 0);
+            let outcome = read_pieces(alloc, &types, &text, first, size)?;
+            assert!(rt;
+                is_told(&outcome, &[], Some((1, cause))),
+                "a text of {length} bytes"
+            );
+            let outcome = read_pieces(alloc, &types, &behind, first, size)?;
+            assert!(rt;
+                is_told_behind(&outcome, &[], Some((1, cause))),
+                "a text of {length} bytes behind a line"
+            );
+        }
     }
     let mut text = line_with_text(alloc, 200)?;
     text.push(b'\n')?;
     let outcome = read_pieces(alloc, &types, &text, 7, 64)?;
     assert!(rt; is_told(&outcome, &[1], None));
+    Ok(())
+}
+
+/// How many lines of 211 bytes a text has within its most bytes, of which 171 are left.
+const MOST_LINES: u64 = 5_088_823;
+
+#[test]
+fn takes_no_more_than_the_most_bytes(rt: HostRuntime) -> Result<(), Fail> {
+    let alloc = rt.alloc();
+    let types = Types::builtin(alloc, 7)?;
+    let mut line = line_with_text(alloc, 200)?;
+    line.push(b'\n')?;
+    assert_eq!(rt; line.len(), 211);
+
+    let mut reader = Reader::new(alloc, &types);
+    let mut batches = 0u64;
+    for _ in 0..MOST_LINES {
+        assert!(rt; reader.feed(&line).is_ok());
+        if reader.take_batch().is_some() {
+            batches = batches.saturating_add(1);
+        }
+    }
+    assert_eq!(rt; batches, 5_088);
+    let rest = line_with_text(alloc, 161)?;
+    assert_eq!(rt; rest.len(), 171);
+    assert!(rt; reader.feed(&rest).is_ok());
+    let error = LineError {
+        line: MOST_LINES + 1,
+        cause: LineCause::TooLarge,
+    };
+    assert_eq!(rt; reader.feed(b"t"), Err(error));
+    assert!(rt; reader.take_batch().is_none());
     Ok(())
 }

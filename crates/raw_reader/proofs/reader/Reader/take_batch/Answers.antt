@@ -1,4 +1,5 @@
 use Rattle.raw_reader.specs.ReaderState.{ReaderState}
+use Rattle.raw_reader.proofs.BatchesFit.{fit_taken}
 use Rattle.raw_reader.proofs.BatchesTaken.{stands_after, ended_after}
 use Rattle.raw_reader.proofs.reader.Reader.take_batch.Goals as goal
 use Rattle.raw_reader.proofs.reader.Reader.take_batch.Goals.{After-pop_front}
@@ -20,3 +21,6 @@ returns-clause-stands c = stands_after (reader_of c) c.args.self.now c.self.view
 
 pub returns-clause-at_end : goal.returns-clause-at_end
 returns-clause-at_end c = ended_after (reader_of c) c.args.self.now c.self.view_is c.pop_front.result c.pop_front.new.self.items c.pop_front.ensures.items
+
+pub returns-clause-fit : goal.returns-clause-fit
+returns-clause-fit c = fit_taken (reader_of c) c.args.self.now c.self.view_is c.pop_front.result c.pop_front.new.self.items c.pop_front.ensures.items

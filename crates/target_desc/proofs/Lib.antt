@@ -1,0 +1,12 @@
+pub mod Documents
+pub mod Places
+pub mod StrayKeyLemmas
+pub mod TraceLemmas
+pub mod EntryLemmas
+pub mod DraftLemmas
+pub mod Exits
+pub mod RowLemmas
+pub mod RefusalLemmas
+pub mod MateLemmas
+pub mod TypeLemmas
+pub mod TargetLemmas

@@ -1,0 +1,6 @@
+use Rattle.std.proofs.Common.{ℕ, ◌<◌}
+use Rattle.target_desc.specs.Drafts.{HasAt, MateIsUnknown}
+use Rattle.target_desc.proofs.mates.first_unknown_mate.Given as goal
+
+abbrev pub invariant-loop-place : goal.invariant-loop-place
+invariant-loop-place l = (j : ℕ) → j < l.place → HasAt (MateIsUnknown l.drafts) l.drafts j → ⊥

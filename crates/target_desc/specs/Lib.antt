@@ -1,0 +1,10 @@
+pub mod Document
+pub mod Refusals
+pub mod Traces
+pub mod Entries
+pub mod Reading
+pub mod Target
+pub mod RefusalNames
+pub mod StrayKeys
+pub mod Names
+pub mod Drafts

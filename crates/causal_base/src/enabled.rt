@@ -75,10 +75,14 @@ fn next_partner(types: &Types, journal: &IndexedJournal, event: &Event) -> Optio
     let Some(mate) = event.mate else {
         return None;
     };
+    // A count is cheaper to read than an event is to find.
+    if mate.number != journal.delivered_on(mate.trace) + 1 {
+        return None;
+    }
     let Some(partner) = journal.event(mate) else {
         return None;
     };
-    if pairs(types, event, partner) && mate.number == journal.delivered_on(mate.trace) + 1 {
+    if pairs(types, event, partner) {
         Some(mate)
     } else {
         None
@@ -108,8 +112,11 @@ fn is_delivered_cause(types: &Types, journal: &IndexedJournal, event: &Event, ma
     requires mate { event.now.mate ≡ Some mate }
     ensures { IsTrue result ↔ ((cause : Event) × Contains (delivered (reverse journal.now)) cause × Fits types.now event.now cause) }
 {
+    if mate.number > journal.delivered_on(mate.trace) {
+        return false;
+    }
     match journal.event(mate) {
-        Some(cause) => mate.number <= journal.delivered_on(mate.trace) && fits(types, event, cause),
+        Some(cause) => fits(types, event, cause),
         None => false,
     }
 }

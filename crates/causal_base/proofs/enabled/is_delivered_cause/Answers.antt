@@ -1,6 +1,4 @@
-use Rattle.std.proofs.Common.{◌≡◌, ◌≤◌, reverse, Some, sym, ◌∙◌, ap, subst, arith}
-use Rattle.std.proofs.lemmas.Bool.Decides.{nat_tests}
-use Rattle.causal_base.specs.declared.event.Event.{Event}
+use Rattle.std.proofs.Common.{◌≡◌, ◌≤◌, reverse, Some, sym, ◌∙◌, subst, arith}
 use Rattle.causal_base.specs.declared.event_id.EventId.{EventId}
 use Rattle.causal_base.specs.Event.{Fits}
 use Rattle.causal_base.specs.History.{count_on}
@@ -27,31 +25,28 @@ fits-requires-clause-earlier c =
 pub returns-then-mate-delivered_on : goal.returns-then-mate-delivered_on
 returns-then-mate-delivered_on c =
     let types = c.args.types.now in
-    let past = reverse c.args.journal.now in
-    let legal = c.requires.kept.legal in
-    let cause = c.in-Some.cause.now in
-    let there = c.in-Some.ensures.some.0 in
-    let is = c.in-Some.ensures.some.1 in
-    let most : c.args.mate.number ≤ count_on c.args.mate.trace (delivered past) = omega (arith, c.if-mate-delivered_on.true, c.delivered_on.ensures) in
-    let gone = delivered_from_number types past legal cause there (subst (λ (i : EventId). i.number ≤ count_on i.trace (delivered past)) (sym is) most) in (
-      λ yes. (cause, gone, c.fits.ensures.0 yes),
-      λ found. c.fits.ensures.1 (subst (Fits types c.args.event.now) (cause_is_named types past legal c.args.event.now cause c.args.mate c.requires.mate there is found.0 found.1 found.2) found.2),
+    let past = reverse c.args.journal.now in (
+      λ yes. absurd cc,
+      λ found.
+          let named : Some found.0.id ≡ Some c.args.mate = sym found.2.names ∙ c.requires.mate in
+          let is : found.0.id ≡ c.args.mate = cc in
+          let most = number_from_delivered types past c.requires.kept.legal found.0 found.1 in
+          let below = subst (λ (i : EventId). i.number ≤ count_on i.trace (delivered past)) is most in
+          absurd (omega (arith, below, c.if-mate-delivered_on.true, c.delivered_on.ensures)),
     )
 
-pub returns-else-mate-delivered_on : goal.returns-else-mate-delivered_on
-returns-else-mate-delivered_on c =
+pub returns-in-Some : goal.returns-in-Some
+returns-in-Some c =
     let types = c.args.types.now in
     let past = reverse c.args.journal.now in
     let legal = c.requires.kept.legal in
     let cause = c.in-Some.cause.now in
     let there = c.in-Some.ensures.some.0 in
-    let is = c.in-Some.ensures.some.1 in (
-      λ yes. absurd (grind (arith, nat_tests)),
-      λ found.
-          let same = cause_is_named types past legal c.args.event.now cause c.args.mate c.requires.mate there is found.0 found.1 found.2 in
-          let most = number_from_delivered types past legal found.0 found.1 in
-          let below = subst (λ (i : EventId). i.number ≤ count_on i.trace (delivered past)) (ap (λ (x : Event). x.id) same ∙ is) most in
-          absurd (omega (arith, below, c.if-mate-delivered_on.false, c.delivered_on.ensures)),
+    let is = c.in-Some.ensures.some.1 in
+    let most : c.args.mate.number ≤ count_on c.args.mate.trace (delivered past) = omega (arith, c.if-mate-delivered_on.false, c.delivered_on.ensures) in
+    let gone = delivered_from_number types past legal cause there (subst (λ (i : EventId). i.number ≤ count_on i.trace (delivered past)) (sym is) most) in (
+      λ yes. (cause, gone, c.fits.ensures.0 yes),
+      λ found. c.fits.ensures.1 (subst (Fits types c.args.event.now) (cause_is_named types past legal c.args.event.now cause c.args.mate c.requires.mate there is found.0 found.1 found.2) found.2),
     )
 
 pub returns-in-None : goal.returns-in-None

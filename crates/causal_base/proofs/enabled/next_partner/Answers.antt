@@ -7,7 +7,6 @@ use Rattle.causal_base.specs.Past.{delivered}
 use Rattle.causal_base.proofs.Pasts.{came_fit, same_came}
 use Rattle.causal_base.proofs.Ready.{count-le-came, type_in_range, mate_in_range}
 use Rattle.causal_base.proofs.enabled.next_partner.Goals as goal
-use Rattle.causal_base.proofs.enabled.next_partner.Goals.{else-pairs-via-then-pairs+else-mate-delivered_on, else-pairs-via-else-pairs}
 
 pub pairs-requires-clause-first : goal.pairs-requires-clause-first
 pairs-requires-clause-first c =
@@ -28,19 +27,20 @@ overflow_add-delivered_on c =
     let most = count-le-came c.args.types.now (reverse c.args.journal.now) c.requires.kept.legal c.in-Some.mate.trace in
     omega (arith, most, c.delivered_on.ensures, c.requires.kept.few)
 
+pub returns-then-mate-delivered_on-clause-none : goal.returns-then-mate-delivered_on-clause-none
+returns-then-mate-delivered_on-clause-none c p there both next =
+    let named : Some p.id ≡ Some c.in-Some.mate = sym both.forth ∙ c.in-Some.is in
+    let its : p.id ≡ c.in-Some.mate = cc in
+    let trace = ap (λ (i : EventId). count_on i.trace (delivered (reverse c.args.journal.now))) its in
+    let number = ap (λ (i : EventId). i.number) its in
+    absurd (omega (arith, next, trace, number, c.if-mate-delivered_on.true, c.delivered_on.ensures))
+
 pub returns-else-pairs-clause-none : goal.returns-else-pairs-clause-none
 returns-else-pairs-clause-none c p there both next =
-    let types = c.args.types.now in
-    let past = reverse c.args.journal.now in
     let partner = c.in-Some-event.partner.now in
     let named : Some p.id ≡ Some c.in-Some.mate = sym both.forth ∙ c.in-Some.is in
     let its : p.id ≡ c.in-Some.mate = cc in
-    let same : p ≡ partner = same_came types past c.requires.kept.legal p partner there c.in-Some-event.ensures.some.0 (its ∙ sym c.in-Some-event.ensures.some.1) in
-    let yes = c.pairs.ensures.1 (subst (λ (v : Event). Pairs types c.args.event.now v) same both) in
-    elim c.else-pairs.branch [
-      | else-pairs-via-then-pairs+else-mate-delivered_on w ↦
-          (let trace = ap (λ (i : EventId). count_on i.trace (delivered past)) its in
-          let number = ap (λ (i : EventId). i.number) its in
-          absurd (omega (arith, next, trace, number, w.if-mate-delivered_on.false, w.delivered_on.ensures)))
-      | else-pairs-via-else-pairs w ↦ (let clash : true ≡ false = sym yes ∙ w.if-pairs.false in absurd cc)
-    ]
+    let same : p ≡ partner = same_came c.args.types.now (reverse c.args.journal.now) c.requires.kept.legal p partner there c.in-Some-event.ensures.some.0 (its ∙ sym c.in-Some-event.ensures.some.1) in
+    let yes = c.pairs.ensures.1 (subst (λ (v : Event). Pairs c.args.types.now c.args.event.now v) same both) in
+    let clash : true ≡ false = sym yes ∙ c.if-pairs.false in
+    absurd cc

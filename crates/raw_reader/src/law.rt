@@ -30,7 +30,7 @@ pub fn good_text_has_no_fault()
         → IsKnownAfter types (text_of_lines types lines ++ tail) others error → ⊥ }
 {}
 
-/// A whole text is good or has a first fault, and not both, and it has its batches and its first fault in one way.
+/// No whole text is good and has a first fault, and it has its batches and its first fault in one way.
 pub fn text_is_read_in_one_way()
     ensures good { (types : TypeTable) → IsTypeTable types → (bytes : List ℕ) (batches others : List (List Event))
         → IsGoodText types bytes batches → IsGoodText types bytes others → batches ≡ others }

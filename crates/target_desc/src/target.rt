@@ -37,6 +37,8 @@ impl Model for Target {
 }
 
 impl Target {
+    ghost use Rattle.target_desc.specs.Target.{AreTraceNames};
+
     /// The target that the bytes of a file say: trace number i is trace i of the file, and type number i is its entry i.
     ///
     /// Each refusal comes exactly where it is the first that applies, in the order of [`TargetError`]. `Oom` comes where
@@ -57,14 +59,15 @@ impl Target {
 
     /// The types of events, over so many traces as there are.
     pub fn types(&self) -> &Types
-        ensures { result.now ≡ self.now.types }
+        ensures types { result.now ≡ self.now.types }
+        ensures names { AreTraceNames self.now.traces self.now.types.traces }
     {
         &self.types
     }
 
     /// The name of the trace with this number.
     pub fn trace_name(&self, trace: u32) -> &[u8]
-        requires { trace < length self.now.traces }
+        requires { trace < self.now.types.traces }
         ensures { slice_get self.now.traces trace ≡ Some result.now }
     {
         self.traces[trace as usize].bytes()

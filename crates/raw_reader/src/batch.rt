@@ -10,12 +10,14 @@ pub struct Batch {
 }
 
 impl Model for Batch {
-    ghost use Rattle.std.specs.Prelude.{List};
+    ghost use Rattle.std.specs.Prelude.{◌≤◌, List, length};
     ghost use Rattle.causal_base.specs.declared.event.Event.{Event};
 
     ghost Value = { List Event };
 
     ghost view = { λ batch. batch.events.items };
+
+    ghost invariant = { λ batch. (1 ≤ length batch.events.items) × (length batch.events.items ≤ 1_000) };
 }
 
 impl Batch {
@@ -30,14 +32,18 @@ impl Batch {
 
     /// Its events, in the order in which they were read.
     pub fn as_slice(&self) -> &[Event]
-        ensures { result.now ≡ self.now }
+        ensures events { result.now ≡ self.now }
+        ensures some { 1 ≤ length self.now }
+        ensures most { length self.now ≤ 1_000 }
     {
         self.events.as_slice()
     }
 
     /// Its events as a vector, with their memory.
     pub fn into_vec(self) -> Vec<Event>
-        ensures { result.items ≡ self }
+        ensures events { result.items ≡ self }
+        ensures some { 1 ≤ length self }
+        ensures most { length self ≤ 1_000 }
     {
         self.events
     }

@@ -35,7 +35,7 @@ returns-clause-taken c events has =
     let gives : into_iter_items c.into_iter-event-iterator.result ≡ c.into_vec-event-items.result.items = c.into_iter-event-iterator.ensures.into_iter_gives.0 in
     let all : c.loop-event.yielded ≡ c.args.batch =
     sym (taken_all c.into_iter-event-iterator.result c.loop-event.yielded c.loop-event.event-iterator c.loop-event.yielded_by c.in-None.ensures.steps.0)
-    ∙ (gives ∙ c.into_vec-event-items.ensures) in
+    ∙ (gives ∙ c.into_vec-event-items.ensures.events) in
     subst (λ es. HasTaken c.args.plain.now.types (events ++ es) last.journal) all (c.loop-event.invariant.took events has)
 
 pub returns-in_err-offer-clause-err : goal.returns-in_err-offer-clause-err
@@ -48,7 +48,7 @@ returns-in_err-offer-clause-err c =
     let rest = into_iter_items c.next.new.self in
     let all : c.loop-event.yielded ++ c.in-Some.event ∷ rest ≡ c.args.batch =
     sym (taken_front c.into_iter-event-iterator.result c.loop-event.yielded c.loop-event.event-iterator c.loop-event.yielded_by ∙ ap (λ es. c.loop-event.yielded ++ es) c.in-Some.ensures.steps.0)
-    ∙ (gives ∙ c.into_vec-event-items.ensures) in
+    ∙ (gives ∙ c.into_vec-event-items.ensures.events) in
     let caused : Caused fault = elim c.in_err-offer.ensures.err [
       | inl memory ↦ inl memory
       | inr full ↦ inr (

@@ -1,0 +1,13 @@
+//! Lists that are shared cheaply: a shared list stays as it was, whatever is pushed on the other.
+#![tactic(auto)]
+
+pub use piece::Piece;
+pub use shared_list::SharedList;
+pub use trace_lists::TraceLists;
+
+mod piece;
+mod shared_list;
+mod spine;
+#[cfg(test)]
+mod tests;
+mod trace_lists;

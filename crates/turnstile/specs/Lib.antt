@@ -1,0 +1,6 @@
+pub mod Entries
+pub mod Views
+pub mod Rule
+pub mod Plays
+pub mod Shown
+pub mod Outcomes

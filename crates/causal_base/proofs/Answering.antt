@@ -1,14 +1,14 @@
 use Rattle.std.proofs.Common.{◌≡◌, ◌≢◌, ◌<◌, ◌≤◌, List, reverse, sym, ◌∙◌, ap, subst, arith, ◌⊎◌, inl, inr, length, Bool, true, false}
-use Rattle.std.specs.Prelude.{Contains}
+use Rattle.std.specs.Prelude.{Contains, IsTrue, ◌↔◌}
 use Rattle.causal_base.specs.declared.entry.Entry.{Entry}
 use Rattle.causal_base.specs.declared.event.Event.{Event}
 use Rattle.causal_base.specs.declared.event_id.EventId.{EventId}
 use Rattle.causal_base.specs.Types.{TypeTable}
 use Rattle.causal_base.specs.Event.{Pairs}
+use Rattle.causal_base.specs.Walks.{Reaches}
 use Rattle.causal_base.specs.History.{count_on}
 use Rattle.causal_base.specs.Past.{came, delivered, HasEvent}
 use Rattle.causal_base.specs.Asked.{SaysWhetherBefore}
-use Rattle.causal_base.specs.Marking.{HasPast}
 use Rattle.causal_base.specs.PlainList.{IsOpenJournal}
 use Rattle.causal_base.proofs.Pasts.{came_fit, delivered_came}
 use Rattle.causal_base.proofs.Numbered.{same_event}
@@ -37,9 +37,9 @@ module _ (types : TypeTable) (journal : List Entry) (kept : IsOpenJournal types 
   pub none_delivered : (id : EventId) → (HasEvent (came (reverse journal)) id → ⊥) → HasEvent (delivered (reverse journal)) id → ⊥
   none_delivered id none there = none (there.0, delivered_came types (reverse journal) kept.legal there.0 there.1, there.2)
 
-  -- another event is before one exactly where it is in its past
-  pub says_other : (a b : EventId) (x y : Event) → Contains (delivered (reverse journal)) x → x.id ≡ a → Contains (delivered (reverse journal)) y → y.id ≡ b → a ≢ b → (Pairs types x y → ⊥) → (is_marked : EventId → Bool) → HasPast types (delivered (reverse journal)) y is_marked → SaysWhetherBefore types (delivered (reverse journal)) a b (is_marked a)
-  says_other a b x y in_x is_a in_y is_b other not_partners is_marked past = record {
+  -- another event is before one exactly where it reaches it
+  pub says_other : (a b : EventId) (x y : Event) → Contains (delivered (reverse journal)) x → x.id ≡ a → Contains (delivered (reverse journal)) y → y.id ≡ b → a ≢ b → (Pairs types x y → ⊥) → (said : Bool) → IsTrue said ↔ Reaches types (delivered (reverse journal)) x y → SaysWhetherBefore types (delivered (reverse journal)) a b said
+  says_other a b x y in_x is_a in_y is_b other not_partners said reach = record {
     first = x;
     first_among = in_x;
     first_id = is_a;
@@ -47,12 +47,8 @@ module _ (types : TypeTable) (journal : List Entry) (kept : IsOpenJournal types 
     second_among = in_y;
     second_id = is_b;
     says = (
-      (λ yes. record {
-        reaches = (past x in_x).0 (subst (λ i. is_marked i ≡ true) (sym is_a) yes);
-        different = λ same. other (sym is_a ∙ ap (λ (e : Event). e.id) same ∙ is_b);
-        apart = not_partners;
-      }),
-      (λ before. subst (λ i. is_marked i ≡ true) is_a ((past x in_x).1 before.reaches)),
+      (λ yes. record { reaches = reach.0 yes; different = λ same. other (sym is_a ∙ ap (λ (e : Event). e.id) same ∙ is_b); apart = not_partners }),
+      (λ before. reach.1 before.reaches),
     );
   }
 
@@ -77,3 +73,9 @@ module _ (types : TypeTable) (journal : List Entry) (kept : IsOpenJournal types 
   -- a delivered event has a type of the table
   pub delivered_type : (e : Event) → Contains (delivered (reverse journal)) e → e.type_no < length types.rows
   delivered_type e gone = type_in_range types e (came_fit types (reverse journal) kept.legal e (delivered_came types (reverse journal) kept.legal e gone))
+
+  -- and its trace is one of the table's
+  pub delivered_trace : (id : EventId) → HasEvent (delivered (reverse journal)) id → id.trace < types.traces
+  delivered_trace id there =
+      let range = (came_fit types (reverse journal) kept.legal there.0 (delivered_came types (reverse journal) kept.legal there.0 there.1)).id in
+      subst (λ (i : EventId). i.trace < types.traces) there.2 range.trace

@@ -8,7 +8,7 @@ use Rattle.causal_base.specs.Types.{TypeTable}
 use Rattle.causal_base.specs.Event.{IsOfKind, Names, Fits, Pairs}
 use Rattle.causal_base.specs.Walks.{Succeeds, Step, Walk, Reaches}
 use Rattle.causal_base.specs.Past.{HasEvent}
-use Rattle.causal_base.specs.History.{Delivery, alone, together, events_of, all_events, count_on, IsNextOfTrace, IsCausal}
+use Rattle.causal_base.specs.History.{EventBlock, alone, together, events_of, all_events, count_on, IsNextOfTrace, IsCausal}
 use Rattle.causal_base.proofs.Ids.{same_id}
 use Rattle.causal_base.proofs.Members.{Contains-cons, Contains-here, Contains-there, Contains-nil}
 use Rattle.causal_base.proofs.Numbered.{IsNumbered, count_on-other, number_within, event_at, same_event}
@@ -32,7 +32,7 @@ pub fits_no : (types : TypeTable) (later earlier : Event) (kind : Kind) → Fits
 fits_no types later earlier kind fits is not_receive not_watch = elim (fits_kind types later earlier kind fits is) [ inl e ↦ not_receive e | inr e ↦ not_watch e ]
 
 -- the events of causal deliveries are numbered
-pub numbered : (types : TypeTable) (ds : List Delivery) → IsCausal types ds → IsNumbered (all_events ds)
+pub numbered : (types : TypeTable) (ds : List EventBlock) → IsCausal types ds → IsNumbered (all_events ds)
 numbered types [] h = tt
 numbered types (alone e ∷ ds) h = (h.0.0, numbered types ds h.1)
 numbered types (together a b ∷ ds) h =
@@ -51,7 +51,7 @@ predecessor_inside es h u v least next succeeds =
     (e.0, e.1, same_id e.0.id u.id (e.2 ∙ succeeds.trace) e.3)
 
 -- one step before an event of causal deliveries lies another of their events
-pub cause_inside : (types : TypeTable) (ds : List Delivery) → IsCausal types ds → (v : Event) → Contains (all_events ds) v → (u : Event) → 1 ≤ u.id.number → Succeeds u v ⊎ (Fits types v u ⊎ Pairs types u v) → HasEvent (all_events ds) u.id
+pub cause_inside : (types : TypeTable) (ds : List EventBlock) → IsCausal types ds → (v : Event) → Contains (all_events ds) v → (u : Event) → 1 ≤ u.id.number → Succeeds u v ⊎ (Fits types v u ⊎ Pairs types u v) → HasEvent (all_events ds) u.id
 cause_inside types [] h v there u least cause = absurd (Contains-nil v there)
 cause_inside types (alone e ∷ ds) h v there u least cause = elim (Contains-cons e (all_events ds) v there) [
   | inl is ↦ has_event-there e (all_events ds) u.id (first (subst (λ (x : Event). Succeeds u x ⊎ (Fits types x u ⊎ Pairs types u x)) (sym is) cause))
@@ -108,12 +108,12 @@ cause_inside types (together a b ∷ ds) h v there u least cause = elim (Contain
     ]
 
 -- an event stays among the events when a delivery is added
-pub Contains-there_events : (d : Delivery) (es : List Event) (x : Event) → Contains es x → Contains (events_of d ++ es) x
+pub Contains-there_events : (d : EventBlock) (es : List Event) (x : Event) → Contains es x → Contains (events_of d ++ es) x
 Contains-there_events (alone e) es x h = Contains-there e es x h
 Contains-there_events (together a b) es x h = Contains-there b (a ∷ es) x (Contains-there a es x h)
 
 -- a step into an earlier event begins at an earlier event
-pub step_back : (types : TypeTable) (d : Delivery) (ds : List Delivery) → IsCausal types (d ∷ ds) → (u v : Event) → Contains (all_events ds) v → Step types (all_events (d ∷ ds)) u v → Step types (all_events ds) u v
+pub step_back : (types : TypeTable) (d : EventBlock) (ds : List EventBlock) → IsCausal types (d ∷ ds) → (u v : Event) → Contains (all_events ds) v → Step types (all_events (d ∷ ds)) u v → Step types (all_events ds) u v
 step_back types d ds h u v inside step =
     let all_numbered = numbered types (d ∷ ds) h in
     let least = (number_within (all_events (d ∷ ds)) all_numbered u step.from).0 in
@@ -122,7 +122,7 @@ step_back types d ds h u v inside step =
     record { from = subst (λ (x : Event). Contains (all_events ds) x) same found.1; to = inside; cause = step.cause }
 
 -- a walk to an earlier event goes through earlier events alone
-pub walk_back : (types : TypeTable) (d : Delivery) (ds : List Delivery) → IsCausal types (d ∷ ds) → (through : List Event) (u v : Event) → Contains (all_events ds) v → Walk types (all_events (d ∷ ds)) u through v → Contains (all_events ds) u × Walk types (all_events ds) u through v
+pub walk_back : (types : TypeTable) (d : EventBlock) (ds : List EventBlock) → IsCausal types (d ∷ ds) → (through : List Event) (u v : Event) → Contains (all_events ds) v → Walk types (all_events (d ∷ ds)) u through v → Contains (all_events ds) u × Walk types (all_events ds) u through v
 walk_back types d ds h [] u v inside walk = (subst (λ (x : Event). Contains (all_events ds) x) (sym walk) inside, walk)
 walk_back types d ds h (w ∷ ws) u v inside walk =
     let rest = walk_back types d ds h ws w v inside walk.1 in
@@ -130,24 +130,24 @@ walk_back types d ds h (w ∷ ws) u v inside walk =
     (step.from, (step, rest.1))
 
 -- more events leave a walk a walk
-pub step_grows : (types : TypeTable) (d : Delivery) (ds : List Delivery) (u v : Event) → Step types (all_events ds) u v → Step types (all_events (d ∷ ds)) u v
+pub step_grows : (types : TypeTable) (d : EventBlock) (ds : List EventBlock) (u v : Event) → Step types (all_events ds) u v → Step types (all_events (d ∷ ds)) u v
 step_grows types d ds u v step = record {
   from = Contains-there_events d (all_events ds) u step.from;
   to = Contains-there_events d (all_events ds) v step.to;
   cause = step.cause;
 }
 
-pub walk_grows : (types : TypeTable) (d : Delivery) (ds : List Delivery) (through : List Event) (u v : Event) → Walk types (all_events ds) u through v → Walk types (all_events (d ∷ ds)) u through v
+pub walk_grows : (types : TypeTable) (d : EventBlock) (ds : List EventBlock) (through : List Event) (u v : Event) → Walk types (all_events ds) u through v → Walk types (all_events (d ∷ ds)) u through v
 walk_grows types d ds [] u v walk = walk
 walk_grows types d ds (w ∷ ws) u v walk = (step_grows types d ds u w walk.0, walk_grows types d ds ws w v walk.1)
 
 -- an earlier event is reached by the same events as before
-pub reaches_back : (types : TypeTable) (d : Delivery) (ds : List Delivery) → IsCausal types (d ∷ ds) → (u v : Event) → Contains (all_events ds) v → Reaches types (all_events (d ∷ ds)) u v → Reaches types (all_events ds) u v
+pub reaches_back : (types : TypeTable) (d : EventBlock) (ds : List EventBlock) → IsCausal types (d ∷ ds) → (u v : Event) → Contains (all_events ds) v → Reaches types (all_events (d ∷ ds)) u v → Reaches types (all_events ds) u v
 reaches_back types d ds h u v inside reaches =
     let back = walk_back types d ds h reaches.through u v inside reaches.walk in
     record { among = back.0; through = reaches.through; walk = back.1 }
 
-pub reaches_grows : (types : TypeTable) (d : Delivery) (ds : List Delivery) (u v : Event) → Reaches types (all_events ds) u v → Reaches types (all_events (d ∷ ds)) u v
+pub reaches_grows : (types : TypeTable) (d : EventBlock) (ds : List EventBlock) (u v : Event) → Reaches types (all_events ds) u v → Reaches types (all_events (d ∷ ds)) u v
 reaches_grows types d ds u v reaches = record {
   among = Contains-there_events d (all_events ds) u reaches.among;
   through = reaches.through;

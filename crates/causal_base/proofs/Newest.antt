@@ -6,14 +6,14 @@ use Rattle.causal_base.specs.declared.kind.Kind.TheVariants.{Unary, Send, Sync}
 use Rattle.causal_base.specs.Types.{TypeTable}
 use Rattle.causal_base.specs.Event.{IsOfKind, Names, Fits, Pairs}
 use Rattle.causal_base.specs.Walks.{Succeeds, Step, Walk, Reaches}
-use Rattle.causal_base.specs.History.{Delivery, alone, together, events_of, all_events, count_on, IsNextOfTrace, IsReady, IsCausal}
+use Rattle.causal_base.specs.History.{EventBlock, alone, together, events_of, all_events, count_on, IsNextOfTrace, IsReady, IsCausal}
 use Rattle.causal_base.proofs.Members.{Contains-cons, Contains-here, Contains-there, Contains-nil}
 use Rattle.causal_base.proofs.Numbered.{number_within}
 use Rattle.causal_base.proofs.Histories.{same_kind, same_name, fits_no, numbered, step_back}
 use Rattle.causal_base.proofs.Reaching.{reaches_step, reaches_itself, step_reaches}
 
 -- the events of the newest delivery are among all
-pub Contains-newest : (d : Delivery) (ds : List Delivery) (x : Event) → Contains (events_of d) x → Contains (all_events (d ∷ ds)) x
+pub Contains-newest : (d : EventBlock) (ds : List EventBlock) (x : Event) → Contains (events_of d) x → Contains (all_events (d ∷ ds)) x
 Contains-newest (alone e) ds x inside = elim (Contains-cons e [] x inside) [
   | inl is ↦ subst (λ (v : Event). Contains (e ∷ all_events ds) v) is (Contains-here e (all_events ds))
   | inr none ↦ absurd (Contains-nil x none)
@@ -27,7 +27,7 @@ Contains-newest (together a b) ds x inside = elim (Contains-cons b (a ∷ []) x 
 ]
 
 -- an event is of the newest delivery or older
-pub Contains-split : (d : Delivery) (ds : List Delivery) (x : Event) → Contains (all_events (d ∷ ds)) x → Contains (events_of d) x ⊎ Contains (all_events ds) x
+pub Contains-split : (d : EventBlock) (ds : List EventBlock) (x : Event) → Contains (all_events (d ∷ ds)) x → Contains (events_of d) x ⊎ Contains (all_events ds) x
 Contains-split (alone e) ds x inside = elim (Contains-cons e (all_events ds) x inside) [
   | inl is ↦ inl (subst (λ (v : Event). Contains (e ∷ []) v) is (Contains-here e []))
   | inr older ↦ inr older
@@ -41,7 +41,7 @@ Contains-split (together a b) ds x inside = elim (Contains-cons b (a ∷ all_eve
 ]
 
 -- each event of the newest delivery is the next of its trace
-pub newest_is_next : (types : TypeTable) (d : Delivery) (ds : List Delivery) → IsCausal types (d ∷ ds) → (x : Event) → Contains (events_of d) x → IsNextOfTrace (all_events ds) x
+pub newest_is_next : (types : TypeTable) (d : EventBlock) (ds : List EventBlock) → IsCausal types (d ∷ ds) → (x : Event) → Contains (events_of d) x → IsNextOfTrace (all_events ds) x
 newest_is_next types (alone e) ds causal x inside = elim (Contains-cons e [] x inside)
     [ inl is ↦ subst (λ (v : Event). IsNextOfTrace (all_events ds) v) is causal.0.0 | inr none ↦ absurd (Contains-nil x none) ]
 newest_is_next types (together a b) ds causal x inside = elim (Contains-cons b (a ∷ []) x inside) [
@@ -51,7 +51,7 @@ newest_is_next types (together a b) ds causal x inside = elim (Contains-cons b (
 ]
 
 -- no older event has the id of an event of the newest delivery
-pub newest_is_new : (types : TypeTable) (d : Delivery) (ds : List Delivery) → IsCausal types (d ∷ ds) → (x e : Event) → Contains (events_of d) x → Contains (all_events ds) e → x.id ≡ e.id → ⊥
+pub newest_is_new : (types : TypeTable) (d : EventBlock) (ds : List EventBlock) → IsCausal types (d ∷ ds) → (x e : Event) → Contains (events_of d) x → Contains (all_events ds) e → x.id ≡ e.id → ⊥
 newest_is_new types d ds causal x e newest older same =
     let next = newest_is_next types d ds causal x newest in
     let next_too : e.id.number ≡ count_on e.id.trace (all_events ds) + 1 = subst (λ (i : EventId). i.number ≡ count_on i.trace (all_events ds) + 1) same next in
@@ -86,9 +86,9 @@ IsSource types z w = Succeeds z w ⊎ Fits types w z
 abbrev pub ReachesSource : TypeTable → List Event → Event → Event → Type 0
 ReachesSource types events w x = (z : Event) × Contains events z × Reaches types events x z × IsSource types z w
 
-module _ (types : TypeTable) (ds : List Delivery) where
+module _ (types : TypeTable) (ds : List EventBlock) where
   -- the events of the newest delivery reach each other
-  pub newest_reach : (d : Delivery) → IsCausal types (d ∷ ds) → (x e : Event) → Contains (events_of d) x → Contains (events_of d) e → Reaches types (all_events (d ∷ ds)) x e
+  pub newest_reach : (d : EventBlock) → IsCausal types (d ∷ ds) → (x e : Event) → Contains (events_of d) x → Contains (events_of d) e → Reaches types (all_events (d ∷ ds)) x e
   newest_reach (alone v) causal x e in_x in_e = elim (Contains-cons v [] x in_x) [
     | inr none ↦ absurd (Contains-nil x none)
     | inl is_x ↦ elim (Contains-cons v [] e in_e) [
@@ -126,7 +126,7 @@ module _ (types : TypeTable) (ds : List Delivery) where
       back = record { from = Contains-here b (a ∷ all_events ds); to = Contains-there b (a ∷ all_events ds) a (Contains-here a (all_events ds)); cause = inr (inr (pairs_swapped types a b causal.0.2)) }
 
   -- the partner of an event of the newest delivery is of it too
-  pub partner_is_new : (d : Delivery) → IsCausal types (d ∷ ds) → (x y : Event) → Contains (events_of d) y → Pairs types x y → (v : Event) × Contains (events_of d) v × (v.id ≡ x.id)
+  pub partner_is_new : (d : EventBlock) → IsCausal types (d ∷ ds) → (x y : Event) → Contains (events_of d) y → Pairs types x y → (v : Event) × Contains (events_of d) v × (v.id ≡ x.id)
   partner_is_new (alone e) causal x y inside pairs = elim (Contains-cons e [] y inside) [
     | inl is ↦ absurd (ready_no_sync types (all_events ds) e causal.0.1 (subst (λ (v : Event). IsOfKind types v Sync) (sym is) pairs.second))
     | inr none ↦ absurd (Contains-nil y none)
@@ -140,7 +140,7 @@ module _ (types : TypeTable) (ds : List Delivery) where
   ]
 
   -- a walk from an older event to one of the newest delivery goes by a source of that delivery
-  pub goes_by_source : (d : Delivery) → IsCausal types (d ∷ ds) → (through : List Event) (x e : Event) → Contains (all_events ds) x → Contains (events_of d) e → Walk types (all_events (d ∷ ds)) x through e → (w : Event) × Contains (events_of d) w × ReachesSource types (all_events ds) w x
+  pub goes_by_source : (d : EventBlock) → IsCausal types (d ∷ ds) → (through : List Event) (x e : Event) → Contains (all_events ds) x → Contains (events_of d) e → Walk types (all_events (d ∷ ds)) x through e → (w : Event) × Contains (events_of d) w × ReachesSource types (all_events ds) w x
   goes_by_source d causal [] x e old new walk = absurd (newest_is_new types d ds causal e x new old (ap (λ (v : Event). v.id) (sym walk)))
   goes_by_source d causal (y ∷ through) x e old new walk = elim (Contains-split d ds y walk.0.to) [
     | inr older ↦

@@ -9,7 +9,7 @@ use Rattle.causal_base.specs.declared.event.Event.{Event}
 use Rattle.causal_base.specs.declared.event_id.EventId.{EventId}
 use Rattle.causal_base.specs.Types.{TypeTable}
 use Rattle.causal_base.specs.Event.{IsFit}
-use Rattle.causal_base.specs.History.{Delivery, alone, together, events_of, all_events, IsCausal}
+use Rattle.causal_base.specs.History.{EventBlock, alone, together, events_of, all_events, IsCausal}
 use Rattle.causal_base.specs.Past.{came, event_of, delivery_of, deliveries, delivered, IsLegalPast}
 use Rattle.causal_base.proofs.Ids.{event_of-member, event_of-only}
 use Rattle.causal_base.proofs.Members.{Contains-cons, Contains-here, Contains-there, Contains-nil, Contains-one}
@@ -45,7 +45,7 @@ pub event_of-came : (types : TypeTable) (past : List Entry) → IsLegalPast type
 event_of-came types past h e there = event_of-only (came past) e there (λ x inside same. same_came types past h x e inside there same)
 
 -- a block of one id delivers the event that is found by it
-pub delivery_of-one : (events : List Event) (a : EventId) (d : Delivery) → delivery_of events (One a) ≡ Some d → (e : Event) × (event_of events a ≡ Some e) × (d ≡ alone e)
+pub delivery_of-one : (events : List Event) (a : EventId) (d : EventBlock) → delivery_of events (One a) ≡ Some d → (e : Event) × (event_of events a ≡ Some e) × (d ≡ alone e)
 delivery_of-one events a d h =
     elim (event_of events a) as (λ o. event_of events a ≡ o → option_map alone o ≡ Some d → (e : Event) × (event_of events a ≡ Some e) × (d ≡ alone e)) [
       | None ↦ λ is eq. absurd cc
@@ -53,7 +53,7 @@ delivery_of-one events a d h =
     ] refl h
 
 -- a block of two ids delivers the two events that are found by them
-pub delivery_of-two : (events : List Event) (a b : EventId) (d : Delivery) → delivery_of events (Two a b) ≡ Some d → (x y : Event) × (event_of events a ≡ Some x) × (event_of events b ≡ Some y) × (d ≡ together x y)
+pub delivery_of-two : (events : List Event) (a b : EventId) (d : EventBlock) → delivery_of events (Two a b) ≡ Some d → (x y : Event) × (event_of events a ≡ Some x) × (event_of events b ≡ Some y) × (d ≡ together x y)
 delivery_of-two events a b d h =
     elim (event_of events a) as (λ o. event_of events a ≡ o → option_and_then (λ x. option_map (together x) (event_of events b)) o ≡ Some d → (x y : Event) × (event_of events a ≡ Some x) × (event_of events b ≡ Some y) × (d ≡ together x y)) [
       | None ↦ λ is eq. absurd cc
@@ -65,7 +65,7 @@ delivery_of-two events a b d h =
     ] refl h
 
 -- what a block delivers is among the events that it is looked up in
-pub delivery_inside : (events : List Event) (block : Block) (d : Delivery) → delivery_of events block ≡ Some d → (e : Event) → Contains (events_of d) e → Contains events e
+pub delivery_inside : (events : List Event) (block : Block) (d : EventBlock) → delivery_of events block ≡ Some d → (e : Event) → Contains (events_of d) e → Contains events e
 delivery_inside events (One a) d h e there =
     let found = delivery_of-one events a d h in
     let is : found.0 ≡ e = Contains-one found.0 e (subst (λ x. Contains (events_of x) e) found.2 there) in
@@ -80,7 +80,7 @@ delivery_inside events (Two a b) d h e there =
     ]
 
 -- the deliveries after an entry that delivers
-pub deliveries-next : (events : List Event) (block : Block) (d : Delivery) (ds : List Delivery) → delivery_of events block ≡ Some d → option_to_list (delivery_of events block) ++ ds ≡ d ∷ ds
+pub deliveries-next : (events : List Event) (block : Block) (d : EventBlock) (ds : List EventBlock) → delivery_of events block ≡ Some d → option_to_list (delivery_of events block) ++ ds ≡ d ∷ ds
 deliveries-next events block d ds h = ap (λ o. option_to_list o ++ ds) h
 
 -- the deliveries of a legal past are causal
@@ -95,7 +95,7 @@ causal types (Pair a b ∷ past) h =
     subst (IsCausal types) (sym (deliveries-next (came past) (Two a b) enabled.delivery (deliveries past) enabled.came_in)) (enabled.may_follow, causal types past h.1)
 causal types (Ended collector ∷ past) h = causal types past h.1
 
-delivered_inside : (events : List Event) (d : Delivery) (es : List Event) (e : Event) → ((x : Event) → Contains (events_of d) x → Contains events x) → (Contains es e → Contains events e) → Contains (events_of d ++ es) e → Contains events e
+delivered_inside : (events : List Event) (d : EventBlock) (es : List Event) (e : Event) → ((x : Event) → Contains (events_of d) x → Contains events x) → (Contains es e → Contains events e) → Contains (events_of d ++ es) e → Contains events e
 delivered_inside events (alone x) es e of_d of_es there = elim (Contains-cons x es e there)
     [ inl is ↦ of_d e (subst (λ z. Contains (x ∷ []) z) is (Contains-here x [])) | inr rest ↦ of_es rest ]
 delivered_inside events (together x y) es e of_d of_es there = elim (Contains-cons y (x ∷ es) e there) [

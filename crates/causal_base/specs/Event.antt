@@ -1,8 +1,9 @@
-use Rattle.std.specs.Prelude.{◌≡◌, ◌≢◌, ◌^◌, ◌<◌, ◌≤◌, ◌⊎◌, ◌↔◌, length, Contains, Some, IsSome, IfSome}
+use Rattle.std.specs.Prelude.{◌≡◌, ◌≢◌, ◌<◌, ◌≤◌, ◌⊎◌, ◌↔◌, length, Contains, Some, IsSome, IfSome}
 use Rattle.causal_base.specs.declared.event.Event.{Event}
 use Rattle.causal_base.specs.declared.event_id.EventId.{EventId}
 use Rattle.causal_base.specs.declared.kind.Kind.{Kind}
 use Rattle.causal_base.specs.declared.kind.Kind.TheVariants.{Unary, Send, Receive, Sync, Watch}
+use Rattle.causal_base.specs.declared.limits.TheConstants.{MOST_NUMBER, MOST_TEXT, NUMBER_BOUND}
 use Rattle.causal_base.specs.Types.{TypeTable, kind_of, AreMates}
 
 -- the event is of a type that does this
@@ -45,16 +46,16 @@ NamesAnother Watch = Unit {0}
 pub record IsInRange (types : TypeTable) (id : EventId) : Type 0 where
   pub trace : id.trace < types.traces
   pub least : 1 ≤ id.number
-  pub most : id.number ≤ 1_000_000
+  pub most : id.number ≤ MOST_NUMBER
 
--- What every event that is taken in meets: ids in range, a mate exactly where its kind names another event, a
--- time below 10^18, and a text of at most 200 bytes without a line feed.
+-- What every event that is taken in meets: ids in range, a mate exactly where its kind names
+-- another event, a time below 10^18, and a text of at most 200 bytes without a line feed.
 pub record IsFit (types : TypeTable) (e : Event) : Type 0 where
   pub id : IsInRange types e.id
   pub kind : Kind
   pub is_of_kind : IsOfKind types e kind
   pub mate : IsSome e.mate ↔ NamesAnother kind
   pub mate_in_range : IfSome e.mate (IsInRange types)
-  pub time : e.time < 10 ^ 18
-  pub text_length : length e.text ≤ 200
+  pub time : e.time < NUMBER_BOUND
+  pub text_length : length e.text ≤ MOST_TEXT
   pub one_line : Contains e.text 10 → ⊥

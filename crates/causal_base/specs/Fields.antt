@@ -2,10 +2,12 @@ use Rattle.std.specs.Prelude.{◌≡◌, ◌≢◌, ℕ, ◌<◌, ◌≤◌, ◌
 use Rattle.causal_base.specs.declared.event_id.EventId.{EventId}
 use Rattle.causal_base.specs.declared.fields.IdFault.{IdFault}
 use Rattle.causal_base.specs.declared.fields.IdFault.TheVariants.{BadId, NoTrace, BadNumber}
+use Rattle.causal_base.specs.declared.limits.TheConstants.{MOST_NUMBER}
 use Rattle.causal_base.specs.Spelling.{IsId}
 
--- The bytes are the front, then the separator, and then the rest, and the front is without that separator.
-pub record IsCut (separator : ℕ) (bytes front rest : List ℕ) : Type 0 where
+-- The bytes are the front, then the separator, and then the rest, and the front is without that
+-- separator.
+pub record SplitsOnce (separator : ℕ) (bytes front rest : List ℕ) : Type 0 where
   pub whole : bytes ≡ front ++ separator ∷ rest
   pub first : All (λ byte. byte ≢ separator) front
 
@@ -18,7 +20,7 @@ pub record IsIdInRange (bytes : List ℕ) (traces : ℕ) (id : EventId) : Type 0
   pub is_id : IsId bytes id.trace id.number
   pub trace : id.trace < traces
   pub least : 1 ≤ id.number
-  pub most : id.number ≤ 1_000_000
+  pub most : id.number ≤ MOST_NUMBER
 
 -- The bytes are an id of a trace that is none of so many.
 pub record NamesNoTrace (bytes : List ℕ) (traces : ℕ) : Type 0 where
@@ -33,7 +35,7 @@ pub record NamesNoNumber (bytes : List ℕ) (traces : ℕ) : Type 0 where
   pub number : ℕ
   pub is_id : IsId bytes trace number
   pub among : trace < traces
-  pub beyond : (number ≡ 0) ⊎ (1_000_000 < number)
+  pub beyond : (number ≡ 0) ⊎ (MOST_NUMBER < number)
 
 -- what is wrong with bytes that are no id in range
 abbrev pub HasIdFault : List ℕ → ℕ → IdFault → Type 0

@@ -22,8 +22,10 @@ pub record SettlesTo (types : TypeTable) (before after : List Entry) : Type 0 wh
   pub legal : IsLegal types after
   pub settled : IsSettled types after
 
--- An event with a new id comes, where fewer came than the limit, and all that is enabled then is delivered.
-pub record ComesInTurn (types : TypeTable) (limit collector : ℕ) (before : List Entry) (e : Event) (after : List Entry) : Type 0 where
+-- An event with a new id comes, where fewer came than the limit, and all that is enabled then is
+-- delivered.
+pub record ComesInTurn (types : TypeTable) (limit collector : ℕ) (before : List Entry) (e : Event)
+    (after : List Entry) : Type 0 where
   pub new : HasEvent (came_by before) e.id → ⊥
   pub room : length (came_by before) < limit
   pub settles : SettlesTo types (before ++ Came collector e ∷ []) after
@@ -33,16 +35,19 @@ pub record MeetsLimit (limit : ℕ) (before : List Entry) (e : Event) : Type 0 w
   pub new : HasEvent (came_by before) e.id → ⊥
   pub full : limit ≤ length (came_by before)
 
--- One thread takes the events of a collector in turn: one whose id came before is passed over, and a new one comes.
--- The collector ends at the end of its events, or at the first that meets the limit.
+-- One thread takes the events of a collector in turn: one whose id came before is passed over, and
+-- a new one comes. The collector ends at the end of its events, or at the first that meets the
+-- limit.
 abbrev pub TakesInTurn : TypeTable → ℕ → ℕ → List Event → List Entry → List Entry → Type 0
 TakesInTurn types limit collector [] before after = after ≡ before ++ Ended collector ∷ []
 TakesInTurn types limit collector (e ∷ events) before after =
     (HasEvent (came_by before) e.id × TakesInTurn types limit collector events before after)
     ⊎ ((MeetsLimit limit before e × (after ≡ before ++ Ended collector ∷ []))
-    ⊎ ((between : List Entry) × ComesInTurn types limit collector before e between × TakesInTurn types limit collector events between after))
+    ⊎ ((between : List Entry) × ComesInTurn types limit collector before e between
+    × TakesInTurn types limit collector events between after))
 
--- the lists of events of several collectors, one list after another, from the collector of this number on
+-- the lists of events of several collectors, one list after another, from the collector of this
+-- number on
 abbrev pub TakesAllInTurn : TypeTable → ℕ → ℕ → List (List Event) → List Entry → List Entry → Type 0
 TakesAllInTurn types limit collector [] before after = after ≡ before
 TakesAllInTurn types limit collector (events ∷ lists) before after = (between : List Entry)

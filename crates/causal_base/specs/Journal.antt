@@ -2,7 +2,7 @@ use Rattle.std.specs.Prelude.{List, reverse}
 use Rattle.causal_base.specs.declared.entry.Entry.{Entry}
 use Rattle.causal_base.specs.declared.event.Event.{Event}
 use Rattle.causal_base.specs.Types.{TypeTable}
-use Rattle.causal_base.specs.History.{Delivery}
+use Rattle.causal_base.specs.History.{EventBlock}
 use Rattle.causal_base.specs.Past.{came, deliveries, delivered, HasNoNext, IsLegalPast}
 
 -- A journal is a list of entries, the oldest first.
@@ -24,5 +24,5 @@ abbrev pub delivered_by : List Entry → List Event
 delivered_by journal = delivered (reverse journal)
 
 -- the deliveries, newest first
-abbrev pub deliveries_by : List Entry → List Delivery
+abbrev pub deliveries_by : List Entry → List EventBlock
 deliveries_by journal = deliveries (reverse journal)

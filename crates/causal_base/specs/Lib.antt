@@ -9,9 +9,13 @@ pub mod Stamps
 pub mod Journal
 pub mod Index
 pub mod PlainList
-pub mod Marking
+pub mod ClockWalks
+pub mod Vectors
 pub mod InTurn
+pub mod Entry
+pub mod Answers
 pub mod Asked
 pub mod Spelling
 pub mod Fields
 pub mod TypeTables
+pub mod Refusals

@@ -9,7 +9,7 @@ use Rattle.causal_base.specs.declared.event.Event.{Event}
 use Rattle.causal_base.specs.declared.event_id.EventId.{EventId}
 use Rattle.causal_base.specs.Types.{TypeTable}
 use Rattle.causal_base.specs.Event.{IsFit}
-use Rattle.causal_base.specs.History.{Delivery, alone, together, events_of, all_events, MayFollow}
+use Rattle.causal_base.specs.History.{EventBlock, alone, together, events_of, all_events, MayFollow, IsCausal}
 
 -- Here a past is entries of a journal with the newest first.
 
@@ -34,12 +34,13 @@ abbrev pub HasEvent : List Event → EventId → Type 0
 HasEvent events id = (e : Event) × Contains events e × (e.id ≡ id)
 
 -- what a block delivers of these events, where it names some of them
-abbrev pub delivery_of : List Event → Block → Option Delivery
+abbrev pub delivery_of : List Event → Block → Option EventBlock
 delivery_of events (One a) = option_map alone (event_of events a)
-delivery_of events (Two a b) = option_and_then (λ x. option_map (together x) (event_of events b)) (event_of events a)
+delivery_of events (Two a b) = option_and_then (λ x. option_map (together x) (event_of events b))
+    (event_of events a)
 
 -- the deliveries of a past, newest first
-abbrev pub deliveries : List Entry → List Delivery
+abbrev pub deliveries : List Entry → List EventBlock
 deliveries [] = []
 deliveries (Came collector e ∷ past) = deliveries past
 deliveries (Gone a ∷ past) = option_to_list (delivery_of (came past) (One a)) ++ deliveries past
@@ -54,12 +55,18 @@ delivered past = all_events (deliveries past)
 abbrev pub HasEnded : List Entry → ℕ → Type 0
 HasEnded past collector = Contains past (Ended collector)
 
--- A block is enabled when its events came and aren't delivered, and they may follow what was delivered.
-pub record IsEnabled (types : TypeTable) (past : List Entry) (block : Block) : Type 0 where
-  pub delivery : Delivery
-  pub came_in : delivery_of (came past) block ≡ Some delivery
-  pub waiting : AllByRecursion (λ e. Contains (delivered past) e → ⊥) (events_of delivery)
-  pub may_follow : MayFollow types (deliveries past) delivery
+-- A block is enabled among events that came, after deliveries, when its events came and aren't
+-- delivered, and they may follow what was delivered.
+pub record IsEnabledAmong (types : TypeTable) (events : List Event) (history : List EventBlock)
+    (block : Block) : Type 0 where
+  pub delivery : EventBlock
+  pub came_in : delivery_of events block ≡ Some delivery
+  pub waiting : AllByRecursion (λ e. Contains (all_events history) e → ⊥) (events_of delivery)
+  pub may_follow : MayFollow types history delivery
+
+-- it is enabled after a past
+abbrev pub IsEnabled : TypeTable → List Entry → Block → Type 0
+IsEnabled types past block = IsEnabledAmong types (came past) (deliveries past) block
 
 -- the block has an event of this trace
 abbrev pub HasTrace : Block → ℕ → Type 0
@@ -67,19 +74,38 @@ HasTrace (One a) trace = a.trace ≡ trace
 HasTrace (Two a b) trace = (a.trace ≡ trace) ⊎ (b.trace ≡ trace)
 
 -- Next is the enabled block that has the lowest trace of all enabled blocks.
-pub record IsNext (types : TypeTable) (past : List Entry) (block : Block) : Type 0 where
-  pub enabled : IsEnabled types past block
+pub record IsNextAmong (types : TypeTable) (events : List Event) (history : List EventBlock)
+    (block : Block) : Type 0 where
+  pub enabled : IsEnabledAmong types events history block
   pub trace : ℕ
   pub has_trace : HasTrace block trace
-  pub lowest : (other : Block) (its : ℕ) → IsEnabled types past other → HasTrace other its → trace ≤ its
+  pub lowest : (other : Block) (its : ℕ) → IsEnabledAmong types events history other
+      → HasTrace other its → trace ≤ its
+
+abbrev pub IsNext : TypeTable → List Entry → Block → Type 0
+IsNext types past block = IsNextAmong types (came past) (deliveries past) block
 
 -- nothing that came could be delivered
-abbrev pub HasNoNext : TypeTable → List Entry → Type 0
-HasNoNext types past = (block : Block) → IsEnabled types past block → ⊥
+abbrev pub HasNoNextAmong : TypeTable → List Event → List EventBlock → Type 0
+HasNoNextAmong types events history =
+    (block : Block) → IsEnabledAmong types events history block → ⊥
 
--- An event may come when nothing that came before could be delivered, it is fit, its id is new, and its collector
--- hasn't ended.
-pub record MayCome (types : TypeTable) (past : List Entry) (collector : ℕ) (e : Event) : Type 0 where
+abbrev pub HasNoNext : TypeTable → List Entry → Type 0
+HasNoNext types past = HasNoNextAmong types (came past) (deliveries past)
+
+-- What delivering rests on, whether or not a legal journal is behind it: the events that came are
+-- fit and have ids of their own, and the deliveries are causal, and of events that came.
+pub record IsHistoryOf (types : TypeTable) (events : List Event) (history : List EventBlock)
+    : Type 0 where
+  pub fit : (e : Event) → Contains events e → IsFit types e
+  pub own_ids : (x y : Event) → Contains events x → Contains events y → x.id ≡ y.id → x ≡ y
+  pub causal : IsCausal types history
+  pub came_first : (e : Event) → Contains (all_events history) e → Contains events e
+
+-- An event may come when nothing that came before could be delivered, it is fit, its id is new, and
+-- its collector hasn't ended.
+pub record MayCome (types : TypeTable) (past : List Entry) (collector : ℕ) (e : Event)
+    : Type 0 where
   pub settled : HasNoNext types past
   pub fit : IsFit types e
   pub new : HasEvent (came past) e.id → ⊥

@@ -1,13 +1,14 @@
-use Rattle.std.specs.Prelude.{◌≡◌, ℕ, ◌^◌, ◌<◌, Bool, ◌&&◌, ◌||◌, false, ◌==◌, nat_le, List, [], ◌∷◌, ◌++◌, length, Option, None, Some, slice_get, codes, decimal, IsTrue}
+use Rattle.std.specs.Prelude.{◌≡◌, ℕ, ◌<◌, Bool, ◌&&◌, ◌||◌, false, ◌==◌, nat_le, List, [], ◌∷◌, ◌++◌, length, Option, None, Some, slice_get, codes, decimal, IsTrue}
 use Rattle.std.specs.List.{list_all}
 use Rattle.std.specs.Option.{option_map_or}
 use Rattle.causal_base.specs.declared.event.Event.{Event}
 use Rattle.causal_base.specs.declared.event_id.EventId.{EventId}
+use Rattle.causal_base.specs.declared.limits.TheConstants.{NUMBER_BOUND}
 use Rattle.causal_base.specs.Types.{TypeTable}
 
 -- a number below 10^18 in decimal, without leading zeros
 pub record IsNumber (bytes : List ℕ) (n : ℕ) : Type 0 where
-  pub small : n < 10 ^ 18
+  pub small : n < NUMBER_BOUND
   pub spelled : bytes ≡ decimal n
 
 -- an ASCII letter
@@ -32,8 +33,8 @@ stop_between trace number = decimal trace ++ (codes "." ++ decimal number)
 
 -- the bytes are an id of this trace and number, in range or not
 pub record IsId (bytes : List ℕ) (trace number : ℕ) : Type 0 where
-  pub small_trace : trace < 10 ^ 18
-  pub small_number : number < 10 ^ 18
+  pub small_trace : trace < NUMBER_BOUND
+  pub small_number : number < NUMBER_BOUND
   pub spelled : bytes ≡ stop_between trace number
 
 -- the text of an id
@@ -54,7 +55,10 @@ abbrev pub text_part : List ℕ → List ℕ
 text_part [] = []
 text_part (c ∷ cs) = codes " " ++ (c ∷ cs)
 
--- The one line of an event, without its end: id, type, mate and time with one space between them, and the text.
+-- The one line of an event, without its end: id, type, mate and time with one space between them,
+-- and the text.
 abbrev pub spelling : TypeTable → Event → List ℕ
 spelling types e =
-    id_text e.id ++ (codes " " ++ (name_of types e.type_no ++ (codes " " ++ (mate_text e.mate ++ (codes " " ++ (decimal e.time ++ text_part e.text))))))
+    id_text e.id ++ (codes " " ++ (name_of types e.type_no
+    ++ (codes " " ++ (mate_text e.mate
+    ++ (codes " " ++ (decimal e.time ++ text_part e.text))))))

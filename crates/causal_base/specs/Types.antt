@@ -22,8 +22,8 @@ pub record AreMates (types : TypeTable) (a b : ℕ) : Type 0 where
   pub forth : mate_of types a ≡ Some b
   pub back : mate_of types b ≡ Some a
 
--- the four types that are there without a target file: `u` unary, `s` send and `r` receive, which mate with each
--- other, and `y` sync, which mates with itself
+-- the four types that are there without a target file: `u` unary, `s` send and `r` receive, which
+-- mate with each other, and `y` sync, which mates with itself
 abbrev pub builtin_types : ℕ → TypeTable
 builtin_types traces = record {
   traces = traces;

@@ -10,14 +10,16 @@ pub record Succeeds (a b : Event) : Type 0 where
   pub trace : b.id.trace ≡ a.id.trace
   pub number : b.id.number ≡ a.id.number + 1
 
--- Cause and effect in one step, within a set of events: the next event of the trace, the receive of a message or
--- the watch of an event, or the other half of a pair. Lamport 1978, with watched events and pairs added.
+-- Cause and effect in one step, within a set of events: the next event of the trace, the receive of
+-- a message or the watch of an event, or the other half of a pair. Lamport 1978, with watched
+-- events and pairs added.
 pub record Step (types : TypeTable) (events : List Event) (a b : Event) : Type 0 where
   pub from : Contains events a
   pub to : Contains events b
   pub cause : Succeeds a b ⊎ (Fits types b a ⊎ Pairs types a b)
 
--- A walk goes from a through these events, in this order, each a step from the one before it, and ends with b.
+-- A walk goes from a through these events, in this order, each a step from the one before it, and
+-- ends with b.
 abbrev pub Walk : TypeTable → List Event → Event → List Event → Event → Type 0
 Walk types events a [] b = a ≡ b
 Walk types events a (x ∷ xs) b = Step types events a x × Walk types events x xs b

@@ -1,7 +1,7 @@
 use crate::event_id::EventId;
 
 /// What is said of events that may not be delivered yet.
-#[derive(Clone, Copy, Debug, PartialEq, Eq)]
+#[derive(Debug, PartialEq, Eq, Drop)]
 pub enum Answer<T> {
     /// All of them are delivered, and this holds.
     Known(T),

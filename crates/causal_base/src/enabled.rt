@@ -9,6 +9,7 @@ ghost use Rattle.causal_base.specs.PlainList.{IsOpenJournal};
 use crate::block::Block;
 use crate::event::Event;
 use crate::event_id::EventId;
+use crate::fitting::{fits, pairs};
 use crate::indexed_journal::IndexedJournal;
 use crate::kind::Kind;
 use crate::types::Types;
@@ -31,8 +32,10 @@ pub fn next(types: &Types, journal: &IndexedJournal) -> Option<Block>
 fn enabled_on(types: &Types, journal: &IndexedJournal, trace: u32) -> Option<Block>
     requires kept { IsOpenJournal types.now journal.now }
     requires trace { trace < types.now.traces }
-    ensures some { IfSome result (λ block. HasTrace block trace × IsEnabled types.now (reverse journal.now) block) }
-    ensures none { IfNone result ((block : Block) → IsEnabled types.now (reverse journal.now) block → HasTrace block trace → ⊥) }
+    ensures some { IfSome result (λ block. HasTrace block trace
+        × IsEnabled types.now (reverse journal.now) block) }
+    ensures none { IfNone result ((block : Block) → IsEnabled types.now (reverse journal.now) block
+        → HasTrace block trace → ⊥) }
 {
     let id = EventId {
         trace,
@@ -49,8 +52,10 @@ fn enabled_with(types: &Types, journal: &IndexedJournal, event: &Event) -> Optio
     requires kept { IsOpenJournal types.now journal.now }
     requires came { Contains (came (reverse journal.now)) event.now }
     requires next { IsNextOfTrace (delivered (reverse journal.now)) event.now }
-    ensures some { IfSome result (λ block. HasTrace block event.now.id.trace × IsEnabled types.now (reverse journal.now) block) }
-    ensures none { IfNone result ((block : Block) → IsEnabled types.now (reverse journal.now) block → HasTrace block event.now.id.trace → ⊥) }
+    ensures some { IfSome result (λ block. HasTrace block event.now.id.trace
+        × IsEnabled types.now (reverse journal.now) block) }
+    ensures none { IfNone result ((block : Block) → IsEnabled types.now (reverse journal.now) block
+        → HasTrace block event.now.id.trace → ⊥) }
 {
     if let Some(partner) = next_partner(types, journal, event) {
         if event.id.trace < partner.trace {
@@ -69,8 +74,11 @@ fn enabled_with(types: &Types, journal: &IndexedJournal, event: &Event) -> Optio
 fn next_partner(types: &Types, journal: &IndexedJournal, event: &Event) -> Option<EventId>
     requires kept { IsOpenJournal types.now journal.now }
     requires came { Contains (came (reverse journal.now)) event.now }
-    ensures some { IfSome result (λ id. (p : Event) × (p.id ≡ id) × Contains (came (reverse journal.now)) p × Pairs types.now event.now p × IsNextOfTrace (delivered (reverse journal.now)) p) }
-    ensures none { IfNone result ((p : Event) → Contains (came (reverse journal.now)) p → Pairs types.now event.now p → IsNextOfTrace (delivered (reverse journal.now)) p → ⊥) }
+    ensures some { IfSome result (λ id. (p : Event) × (p.id ≡ id)
+        × Contains (came (reverse journal.now)) p × Pairs types.now event.now p
+        × IsNextOfTrace (delivered (reverse journal.now)) p) }
+    ensures none { IfNone result ((p : Event) → Contains (came (reverse journal.now)) p
+        → Pairs types.now event.now p → IsNextOfTrace (delivered (reverse journal.now)) p → ⊥) }
 {
     let Some(mate) = event.mate else {
         return None;
@@ -110,7 +118,8 @@ fn is_delivered_cause(types: &Types, journal: &IndexedJournal, event: &Event, ma
     requires kept { IsOpenJournal types.now journal.now }
     requires came { Contains (came (reverse journal.now)) event.now }
     requires mate { event.now.mate ≡ Some mate }
-    ensures { IsTrue result ↔ ((cause : Event) × Contains (delivered (reverse journal.now)) cause × Fits types.now event.now cause) }
+    ensures { IsTrue result ↔ ((cause : Event) × Contains (delivered (reverse journal.now)) cause
+        × Fits types.now event.now cause) }
 {
     if mate.number > journal.delivered_on(mate.trace) {
         return false;
@@ -119,37 +128,4 @@ fn is_delivered_cause(types: &Types, journal: &IndexedJournal, event: &Event, ma
         Some(cause) => fits(types, event, cause),
         None => false,
     }
-}
-
-/// Whether the later event is a receive of the earlier one, or watches it.
-fn fits(types: &Types, later: &Event, earlier: &Event) -> bool
-    requires later { later.now.type_no < length types.now.rows }
-    requires earlier { earlier.now.type_no < length types.now.rows }
-    ensures { IsTrue result ↔ Fits types.now later.now earlier.now }
-{
-    later.mate == Some(earlier.id)
-        && match types.kind(later.type_no) {
-            Kind::Receive => {
-                types.kind(earlier.type_no) == Kind::Send
-                    && types.mate(later.type_no) == Some(earlier.type_no)
-                    && types.mate(earlier.type_no) == Some(later.type_no)
-            }
-            Kind::Watch => true,
-            _ => false,
-        }
-}
-
-/// Whether two events are partners: they are sync events of two traces that name each other, of types that are mates.
-pub fn pairs(types: &Types, a: &Event, b: &Event) -> bool
-    requires first { a.now.type_no < length types.now.rows }
-    requires second { b.now.type_no < length types.now.rows }
-    ensures { IsTrue result ↔ Pairs types.now a.now b.now }
-{
-    a.id.trace != b.id.trace
-        && a.mate == Some(b.id)
-        && b.mate == Some(a.id)
-        && types.kind(a.type_no) == Kind::Sync
-        && types.kind(b.type_no) == Kind::Sync
-        && types.mate(a.type_no) == Some(b.type_no)
-        && types.mate(b.type_no) == Some(a.type_no)
 }

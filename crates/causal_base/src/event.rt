@@ -4,8 +4,8 @@ use crate::event_id::EventId;
 use crate::text::Text;
 use std::alloc::{AllocError, Global};
 
-/// An event as a collector brings it: its id, the number of its type, the event that it names, a time that
-/// is only carried, and a text.
+/// An event as a collector brings it: its id, the number of its type, the event that it names, a
+/// time that is only carried, and a text.
 #[derive(Debug, PartialEq, Eq, Drop)]
 pub struct Event {
     pub id: EventId,

@@ -1,12 +1,10 @@
 ghost use Rattle.std.specs.Prelude.{◌≡◌, ◌≢◌, ℕ, ◌↔◌, All, IsTrue, IfSome, IfNone, IfOk, IfErr};
 ghost use Rattle.std.specs.List.{list_all};
-ghost use Rattle.causal_base.specs.Fields.{HasIdFault, IsCut, IsIdInRange, IsNoId};
+ghost use Rattle.causal_base.specs.Fields.{HasIdFault, SplitsOnce, IsIdInRange, IsNoId};
 ghost use Rattle.causal_base.specs.Spelling.{IsId, IsName, IsNumber, is_letter, is_name_byte};
 
 use crate::event_id::EventId;
-
-/// The greatest number that an event may have within its trace.
-const MOST_NUMBER: u64 = 1_000_000;
+use crate::limits::MOST_NUMBER;
 
 /// Why bytes don't name an event of a given number of traces.
 #[derive(Clone, Copy, Debug, PartialEq, Eq)]
@@ -19,9 +17,11 @@ pub enum IdFault {
     BadNumber,
 }
 
-/// What stands before the first separator, and what stands after it. None where the bytes have no separator.
-pub fn cut(bytes: &[u8], separator: u8) -> Option<(&[u8], &[u8])>
-    ensures found { IfSome result (λ parts. IsCut separator bytes.now parts.0.now parts.1.now) }
+/// What stands before the first separator, and what stands after it. None where the bytes have no
+/// separator.
+pub fn split_once(bytes: &[u8], separator: u8) -> Option<(&[u8], &[u8])>
+    ensures found { IfSome result (λ parts. SplitsOnce separator bytes.now parts.0.now
+        parts.1.now) }
     ensures none { IfNone result (All (λ byte. byte ≢ separator) bytes.now) }
 {
     for (index, byte) in bytes.iter().enumerate() {
@@ -32,8 +32,8 @@ pub fn cut(bytes: &[u8], separator: u8) -> Option<(&[u8], &[u8])>
     None
 }
 
-/// The number that the bytes spell in decimal: `0`, or a digit from 1 to 9 and at most 17 digits after it.
-/// None where they are anything else.
+/// The number that the bytes spell in decimal: `0`, or a digit from 1 to 9 and at most 17 digits
+/// after it. None where they are anything else.
 pub fn number_of(bytes: &[u8]) -> Option<u64>
     ensures found { IfSome result (λ n. IsNumber bytes.now n) }
     ensures none { IfNone result ((n : ℕ) → IsNumber bytes.now n → ⊥) }
@@ -54,7 +54,8 @@ pub fn number_of(bytes: &[u8]) -> Option<u64>
     Some(number)
 }
 
-/// Whether the bytes are a name: an ASCII letter, and at most 31 ASCII letters, digits and `_` after it.
+/// Whether the bytes are a name: an ASCII letter, and at most 31 ASCII letters, digits and `_`
+/// after it.
 pub fn is_name(bytes: &[u8]) -> bool
     ensures { IsTrue result ↔ IsName bytes.now }
 {
@@ -87,8 +88,9 @@ fn is_name_byte(byte: u8) -> bool
 
 /// The event that the bytes name, as `2.17` for the event 17 of the trace 2, out of so many traces.
 ///
-/// The faults come in the order of [`IdFault`]: `BadId` where the bytes are no id, `NoTrace` where its trace is
-/// none of the traces, and `BadNumber` where the trace is one, but the number isn't from 1 to 1,000,000.
+/// The faults come in the order of [`IdFault`]: `BadId` where the bytes are no id, `NoTrace` where
+/// its trace is none of the traces, and `BadNumber` where the trace is one, but the number isn't
+/// from 1 to 1,000,000.
 pub fn id_of(bytes: &[u8], traces: u32) -> Result<EventId, IdFault>
     ensures ok { IfOk result (IsIdInRange bytes.now traces) }
     ensures err { IfErr result (HasIdFault bytes.now traces) }
@@ -99,7 +101,7 @@ pub fn id_of(bytes: &[u8], traces: u32) -> Result<EventId, IdFault>
     if trace >= u64::from(traces) {
         return Err(IdFault::NoTrace);
     }
-    if number == 0 || number > MOST_NUMBER {
+    if number == 0 || number > u64::from(MOST_NUMBER) {
         return Err(IdFault::BadNumber);
     }
     Ok(EventId {
@@ -113,7 +115,7 @@ fn id_numbers(bytes: &[u8]) -> Option<(u64, u64)>
     ensures found { IfSome result (λ id. IsId bytes.now id.0 id.1) }
     ensures none { IfNone result (IsNoId bytes.now) }
 {
-    let (trace, number) = cut(bytes, b'.')?;
+    let (trace, number) = split_once(bytes, b'.')?;
     Some((number_of(trace)?, number_of(number)?))
 }
 

@@ -8,20 +8,19 @@ ghost use Rattle.causal_base.specs.Index.{IsIndexOf};
 use crate::entry::Entry;
 use crate::event::Event;
 use crate::event_id::EventId;
+use crate::limits::MOST_TRACES;
 use std::alloc::{AllocError, Global};
 use std::collections::BTreeMap;
 use std::marker::Model;
 
-/// How many traces there are at most.
-const MOST_TRACES: usize = 256;
-
-/// A journal of one collector, with an index of the events in it, so that a look-up doesn't go through it.
-/// Room for the delivery of an event is taken when it comes. Contracts see it as the journal.
+/// A journal of one collector, with an index of the events in it, so that a look-up doesn't go
+/// through it. Room for the delivery of an event is taken when it comes. Contracts see it as the
+/// journal.
 #[derive(Debug, Drop)]
 pub struct IndexedJournal {
     entries: Vec<Entry>,
     places: BTreeMap<EventId, usize>,
-    counts: [u32; MOST_TRACES],
+    counts: [u32; MOST_TRACES as usize],
     accepted: u32,
 }
 
@@ -34,7 +33,8 @@ impl Model for IndexedJournal {
 
     ghost view = { λ j. j.entries.items };
 
-    ghost invariant = { λ j. IsIndexOf j.entries.items j.places j.counts j.accepted × (2 * j.accepted ≤ vec_capacity j.entries) };
+    ghost invariant = { λ j. IsIndexOf j.entries.items j.places j.counts j.accepted
+        × (2 * j.accepted ≤ vec_capacity j.entries) };
 }
 
 impl IndexedJournal {
@@ -66,7 +66,7 @@ impl IndexedJournal {
 
     /// How many events of a trace were delivered.
     pub fn delivered_on(&self, trace: u32) -> u32
-        requires { trace < 256 }
+        requires { trace < MOST_TRACES }
         ensures { result ≡ count_on trace (delivered (reverse self.now)) }
     {
         self.counts[trace as usize]
@@ -74,7 +74,8 @@ impl IndexedJournal {
 
     /// The event with this id, if it came.
     pub fn event(&self, id: EventId) -> Option<&Event>
-        ensures some { IfSome result (λ e. Contains (came (reverse self.now)) e.now × (e.now.id ≡ id)) }
+        ensures some { IfSome result (λ e. Contains (came (reverse self.now)) e.now
+            × (e.now.id ≡ id)) }
         ensures none { IfNone result (HasEvent (came (reverse self.now)) id → ⊥) }
     {
         match self.places.get(&id) {
@@ -83,7 +84,8 @@ impl IndexedJournal {
         }
     }
 
-    /// Adds an event that comes from collector 0, and takes the room for its delivery. Its id is new.
+    /// Adds an event that comes from collector 0, and takes the room for its delivery. Its id is
+    /// new.
     pub fn push_came(&mut self, event: Event) -> Result<(), AllocError>
         requires new { HasEvent (came (reverse self.old)) event.id → ⊥ }
         requires few { length (came (reverse self.old)) < 2 ^ 31 }
@@ -103,7 +105,7 @@ impl IndexedJournal {
     /// Adds that the event with this id was delivered. It takes no memory.
     pub fn push_gone(&mut self, id: EventId)
         requires came { (e : Event) × (event_of (came (reverse self.old)) id ≡ Some e) }
-        requires trace { id.trace < 256 }
+        requires trace { id.trace < MOST_TRACES }
         requires few { count_on id.trace (delivered (reverse self.old)) < 2 ^ 31 }
         requires room { length self.old < 2 * length (came (reverse self.old)) }
         ensures { self.new ≡ self.old ++ Gone id ∷ [] }
@@ -117,7 +119,7 @@ impl IndexedJournal {
         requires first { (x : Event) × (event_of (came (reverse self.old)) first ≡ Some x) }
         requires second { (y : Event) × (event_of (came (reverse self.old)) second ≡ Some y) }
         requires first_trace { first.trace < second.trace }
-        requires second_trace { second.trace < 256 }
+        requires second_trace { second.trace < MOST_TRACES }
         requires first_few { count_on first.trace (delivered (reverse self.old)) < 2 ^ 31 }
         requires second_few { count_on second.trace (delivered (reverse self.old)) < 2 ^ 31 }
         requires room { length self.old < 2 * length (came (reverse self.old)) }
@@ -130,16 +132,18 @@ impl IndexedJournal {
 }
 
 /// No event of any trace.
-fn no_counts() -> [u32; MOST_TRACES]
-    ensures { (trace : ℕ) → trace < 256 → slice_index result trace ≡ 0 }
+fn no_counts() -> [u32; MOST_TRACES as usize]
+    ensures { (trace : ℕ) → trace < MOST_TRACES → slice_index result trace ≡ 0 }
 {
-    [0; MOST_TRACES]
+    [0; MOST_TRACES as usize]
 }
 
 /// The event that came at a place of a journal, if one did.
 fn event_at(entries: &[Entry], place: usize) -> Option<&Event>
-    ensures some { IfSome result (λ e. (collector : ℕ) × (slice_get entries.now place ≡ Some (Came collector e.now))) }
-    ensures none { IfNone result ((collector : ℕ) (e : Event) → slice_get entries.now place ≢ Some (Came collector e)) }
+    ensures some { IfSome result (λ e. (collector : ℕ)
+        × (slice_get entries.now place ≡ Some (Came collector e.now))) }
+    ensures none { IfNone result ((collector : ℕ) (e : Event)
+        → slice_get entries.now place ≢ Some (Came collector e)) }
 {
     match entries.get(place) {
         Some(Entry::Came(_, event)) => Some(event),

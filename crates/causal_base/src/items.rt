@@ -1,4 +1,5 @@
 ghost use Rattle.std.specs.Prelude.{◌≡◌, List};
+ghost use Rattle.std.specs.Cmp.Lexicographic.{pointwise, lists_per, lists_equiv};
 
 use crate::event_id::EventId;
 use std::marker::Model;
@@ -15,7 +16,8 @@ pub type Parts = Items<(u32, u32)>;
 /// A number of events for each trace.
 pub type Counts = Items<u32>;
 
-/// A list that contracts see as the list of its items. It has what a `Vec` has, without its capacity.
+/// A list that contracts see as the list of its items. It has what a `Vec` has, without its
+/// capacity.
 #[derive(Debug, Drop)]
 pub struct Items<T> {
     items: Vec<T>,
@@ -48,4 +50,18 @@ impl<T> Items<T> {
     {
         self.items
     }
+}
+
+impl<T: PartialEq> PartialEq for Items<T> {
+    ghost eq = { λ a b. pointwise T.eq a b };
+
+    ghost laws = { lists_per T.laws };
+
+    fn eq(&self, other: &Self) -> bool {
+        self.items == other.items
+    }
+}
+
+impl<T: Eq> Eq for Items<T> {
+    ghost laws = { lists_equiv T.Eq.laws };
 }

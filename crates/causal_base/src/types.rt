@@ -4,12 +4,14 @@ ghost use Rattle.causal_base.specs.Spelling.{name_of};
 ghost use Rattle.causal_base.specs.TypeTables.{IsTypeTable};
 
 use crate::kind::Kind;
+use crate::limits::MOST_TRACES;
 use crate::text::Text;
 use crate::type_row::TypeRow;
 use std::alloc::{AllocError, Global};
 use std::marker::Model;
 
-/// How many traces there are, and the types that events may have. Contracts see it as a table of both.
+/// How many traces there are, and the types that events may have. Contracts see it as a table of
+/// both.
 #[derive(Debug, Drop)]
 pub struct Types {
     traces: u32,
@@ -25,8 +27,9 @@ impl Model for Types {
 }
 
 impl Types {
-    /// A table of 1 to 256 traces and 1 to 64 types, whose names are names and differ. A send type and a
-    /// receive type mate with each other, a sync type with a sync type, perhaps itself, and the others with none.
+    /// A table of 1 to [`MOST_TRACES`] traces and 1 to [`MOST_TYPES`] types, whose names are names
+    /// and differ. A send type and a receive type mate with each other, a sync type with a sync
+    /// type, perhaps itself, and the others with none.
     pub fn new(traces: u32, rows: Vec<TypeRow>) -> Types
         requires { IsTypeTable (record { traces = traces; rows = rows.items }) }
         ensures { result ≡ record { traces = traces; rows = rows.items } }
@@ -34,11 +37,11 @@ impl Types {
         Types { traces, rows }
     }
 
-    /// The types that need no target file, for 1 to 256 traces: `u` unary, `s` send and `r` receive, which mate
-    /// with each other, and `y` sync, which mates with itself.
+    /// The types that need no target file, for 1 to [`MOST_TRACES`] traces: `u` unary, `s` send and
+    /// `r` receive, which mate with each other, and `y` sync, which mates with itself.
     pub fn builtin(alloc: Global, traces: u32) -> Result<Types, AllocError>
         requires some { 1 ≤ traces }
-        requires most { traces ≤ 256 }
+        requires most { traces ≤ MOST_TRACES }
         ensures { IfOk result (λ types. types ≡ builtin_types traces) }
     {
         let rows = vec![in alloc;
@@ -83,7 +86,8 @@ impl Types {
     /// What the events of the type with this number do.
     pub fn kind(&self, type_no: u8) -> Kind
         requires { type_no < length self.now.rows }
-        ensures { kind_of self.now type_no ≡ Some result }
+        ensures kind { kind_of self.now type_no ≡ Some result }
+        ensures table { IsTypeTable self.now }
     {
         self.rows[type_no as usize].kind
     }
@@ -91,7 +95,8 @@ impl Types {
     /// The number of the type that the type with this number mates with, if it mates.
     pub fn mate(&self, type_no: u8) -> Option<u8>
         requires { type_no < length self.now.rows }
-        ensures { result ≡ mate_of self.now type_no }
+        ensures mate { result ≡ mate_of self.now type_no }
+        ensures table { IsTypeTable self.now }
     {
         self.rows[type_no as usize].mate
     }
@@ -100,8 +105,11 @@ impl Types {
     pub fn type_of(&self, name: &[u8]) -> Option<u8>
         ensures below { IfSome result (λ type_no. type_no < length self.now.rows) }
         ensures named { IfSome result (λ type_no. name_of self.now type_no ≡ name.now) }
-        ensures only { IfSome result (λ type_no. (other : ℕ) → other < length self.now.rows → name_of self.now other ≡ name.now → other ≡ type_no) }
-        ensures none { IfNone result ((type_no : ℕ) → type_no < length self.now.rows → name_of self.now type_no ≢ name.now) }
+        ensures only { IfSome result (λ type_no. (other : ℕ) → other < length self.now.rows
+            → name_of self.now other ≡ name.now → other ≡ type_no) }
+        ensures none { IfNone result ((type_no : ℕ) → type_no < length self.now.rows
+            → name_of self.now type_no ≢ name.now) }
+        ensures table { IsTypeTable self.now }
     {
         for type_no in 0..self.rows.len() as u8 {
             if self.name(type_no) == name {

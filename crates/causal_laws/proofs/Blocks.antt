@@ -8,10 +8,7 @@ use Rattle.causal_base.specs.declared.kind.Kind.TheVariants.{Sync}
 use Rattle.causal_base.specs.Types.{TypeTable}
 use Rattle.causal_base.specs.Event.{IsOfKind, Names}
 use Rattle.causal_base.specs.Past.{delivered, IsEnabled, HasTrace, IsNext, IsLegalPast}
-use Rattle.causal_base.proofs.Histories.{same_name}
-use Rattle.causal_base.proofs.Ready.{ready_from_enabled}
-use Rattle.causal_base.proofs.Partners.{AreNextPartners, partners_from_enabled, next_of_trace_is_one}
-use Rattle.causal_base.proofs.Newest.{ready_no_sync}
+use Rattle.causal_base.proofs.CallerLemmas.{same_name, ready_from_enabled, AreNextPartners, partners_from_enabled, next_of_trace_is_one, ready_no_sync}
 
 module _ (types : TypeTable) (past : List Entry) (legal : IsLegalPast types past) where
   -- an event alone and a pair don't share a trace

@@ -1,17 +1,13 @@
-use Rattle.std.proofs.Common.{◌≡◌, ◌<◌, ◌≤◌, ◌+◌, ℕ, List, [], ◌∷◌, ◌++◌, Bool, true, false, cond, refl, sym, ◌∙◌, ap, subst, arith}
-use Rattle.std.specs.Prelude.{Contains, ◌↔◌, ◌&&◌, IsTrue, All, count_by, nat_le, slice_index_or}
+use Rattle.std.proofs.Common.{◌≡◌, ◌<◌, ◌≤◌, ℕ, List, [], ◌∷◌, ◌++◌, Bool, true, false, refl, sym, ◌∙◌, ap, subst, arith}
+use Rattle.std.specs.Prelude.{Contains, ◌↔◌, ◌&&◌, IsTrue, count_by, nat_le}
 use Rattle.std.proofs.lemmas.Bool.{and_parts, and_from, and_right, leb-true, le-leb, lt-leb, false_from_ne_true}
-use Rattle.std.proofs.lemmas.List.Elements.{All-contains, Contains-get_or}
-use Rattle.std.proofs.lemmas.List.Sums.{sum_by-cons}
+use Rattle.std.proofs.lemmas.List.Elements.{All-contains}
 use Rattle.causal_base.specs.declared.event.Event.{Event}
 use Rattle.causal_base.specs.Types.{TypeTable}
 use Rattle.causal_base.specs.Walks.{Reaches}
-use Rattle.causal_base.specs.Clocks.{Counts, IsClock}
-use Rattle.causal_base.specs.History.{Delivery, alone, together, all_events, count_on, IsCausal}
-use Rattle.causal_base.proofs.Ids.{same_id}
-use Rattle.causal_base.proofs.Members.{Contains-here, Contains-there}
-use Rattle.causal_base.proofs.Numbered.{IsNumbered, number_within, event_at, same_event, count_on-grows}
-use Rattle.causal_base.proofs.Histories.{numbered}
+use Rattle.causal_base.specs.Clocks.{HasCount, IsClock}
+use Rattle.causal_base.specs.History.{EventBlock, alone, together, all_events, count_on, IsCausal}
+use Rattle.causal_base.proofs.CallerLemmas.{same_id, Contains-here, Contains-there, IsNumbered, number_within, event_at, same_event, count_on-grows, numbered, count_by_agree, and_true, count_by_skip, All-from_members}
 use Rattle.causal_laws.proofs.Prefixes.{Contains-grows}
 use Rattle.causal_laws.proofs.Earlier.{older_are_causal, reaches_back_all, reaches_grows_all}
 
@@ -21,29 +17,8 @@ same_answer P true d b_is d_is = sym (d_is.1 (b_is.0 refl))
 same_answer P false true b_is d_is = b_is.1 (d_is.0 refl)
 same_answer P false false b_is d_is = refl
 
--- how many pass is counted from the first element on
-pub count_by-cons : {A : Type 0} (test : A → Bool) (x : A) (xs : List A) → count_by test (x ∷ xs) ≡ cond (test x) 1 0 + count_by test xs
-count_by-cons test x xs = sum_by-cons (λ y. cond (test y) 1 0) x xs
-
--- tests that agree on each member count the same
-pub count_by_agree : {A : Type 0} (test other : A → Bool) (xs : List A) → ((x : A) → Contains xs x → test x ≡ other x) → count_by test xs ≡ count_by other xs
-count_by_agree test other [] agree = refl
-count_by_agree {A} test other (x ∷ xs) agree =
-    let here : test x ≡ other x = agree x (Contains-here x xs) in
-    let rest : count_by test xs ≡ count_by other xs = count_by_agree test other xs (λ y inside. agree y (Contains-there x xs y inside)) in
-    count_by-cons test x xs ∙ (ap (λ (b : Bool). cond b 1 0 + count_by test xs) here ∙ ap (λ (n : ℕ). cond (other x) 1 0 + n) rest) ∙ sym (count_by-cons other x xs)
-
--- true on the right changes no test
-pub and_true : (b : Bool) → (b && true) ≡ b
-and_true true = refl
-and_true false = refl
-
--- what holds of each member holds at each index
-pub All-from_members : {A : Type 0} (P : A → Type 0) (xs : List A) → ((x : A) → Contains xs x → P x) → All P xs
-All-from_members P xs each k d inside = each (slice_index_or xs k d) (Contains-get_or xs k d inside)
-
 -- elements with a property are so many in one way only
-pub counts_is_one : {A : Type 0} (Property : A → Type 0) (xs : List A) (m n : ℕ) → Counts Property xs m → Counts Property xs n → m ≡ n
+pub counts_is_one : {A : Type 0} (Property : A → Type 0) (xs : List A) (m n : ℕ) → HasCount Property xs m → HasCount Property xs n → m ≡ n
 counts_is_one {A} Property xs m n one other =
     sym one.number_is
     ∙ count_by_agree one.test other.test xs (λ x inside. same_answer (Property x) (one.test x) (other.test x)
@@ -51,12 +26,8 @@ counts_is_one {A} Property xs m n one other =
     (All-contains (λ (y : A). IsTrue (other.test y) ↔ Property y) xs x other.decides inside))
     ∙ other.number_is
 
--- an element that fails isn't counted
-pub count_by_skip : {A : Type 0} (test : A → Bool) (x : A) (xs : List A) → test x ≡ false → count_by test (x ∷ xs) ≡ count_by test xs
-count_by_skip test x xs fails = rw (count_by-cons test x xs, fails) (omega arith)
-
 -- added deliveries take nothing from a count
-pub count_on-added : (trace : ℕ) (added ds : List Delivery) → count_on trace (all_events ds) ≤ count_on trace (all_events (added ++ ds))
+pub count_on-added : (trace : ℕ) (added ds : List EventBlock) → count_on trace (all_events ds) ≤ count_on trace (all_events (added ++ ds))
 count_on-added trace [] ds = omega arith
 count_on-added trace (alone e ∷ added) ds =
     let rest = count_on-added trace added ds in
@@ -70,7 +41,7 @@ count_on-added trace (together a b ∷ added) ds =
     omega (arith, rest, first, second)
 
 -- A test that fails each event numbered above the older ones of its trace counts the older ones alone.
-count_by_older : (types : TypeTable) (test : Event → Bool) (added ds : List Delivery) → IsCausal types (added ++ ds) → ((x : Event) → Contains (all_events (added ++ ds)) x → count_on x.id.trace (all_events ds) < x.id.number → test x ≡ false) → count_by test (all_events (added ++ ds)) ≡ count_by test (all_events ds)
+count_by_older : (types : TypeTable) (test : Event → Bool) (added ds : List EventBlock) → IsCausal types (added ++ ds) → ((x : Event) → Contains (all_events (added ++ ds)) x → count_on x.id.trace (all_events ds) < x.id.number → test x ≡ false) → count_by test (all_events (added ++ ds)) ≡ count_by test (all_events ds)
 count_by_older types test [] ds h fails = refl
 count_by_older types test (alone e ∷ added) ds h fails =
     let es = all_events (added ++ ds) in
@@ -95,7 +66,7 @@ passes_numbered test events x = test x && nat_le x.id.number (count_on x.id.trac
 abbrev IsCounted : TypeTable → List Event → Event → ℕ → Event → Type 0
 IsCounted types events e trace x = (x.id.trace ≡ trace) × Reaches types events x e
 
-module _ (types : TypeTable) (added ds : List Delivery) (causal : IsCausal types (added ++ ds)) where
+module _ (types : TypeTable) (added ds : List EventBlock) (causal : IsCausal types (added ++ ds)) where
   -- the older events are numbered
   older_numbered : IsNumbered (all_events ds)
   older_numbered = numbered types ds (older_are_causal types added ds causal)

@@ -3,12 +3,12 @@ use Rattle.std.specs.Prelude.{Contains}
 use Rattle.causal_base.specs.declared.event.Event.{Event}
 use Rattle.causal_base.specs.Types.{TypeTable}
 use Rattle.causal_base.specs.Walks.{Walk, Reaches}
-use Rattle.causal_base.specs.History.{Delivery, all_events, IsCausal}
-use Rattle.causal_base.proofs.Histories.{walk_back, reaches_back, reaches_grows}
+use Rattle.causal_base.specs.History.{EventBlock, all_events, IsCausal}
+use Rattle.causal_base.proofs.CallerLemmas.{walk_back, reaches_back, reaches_grows}
 use Rattle.causal_laws.proofs.Prefixes.{Contains-grows}
 
 -- a walk to an event of the older deliveries goes through their events alone
-pub walk_back_all : (types : TypeTable) (added ds : List Delivery) → IsCausal types (added ++ ds) → (through : List Event) (u v : Event) → Contains (all_events ds) v → Walk types (all_events (added ++ ds)) u through v → Contains (all_events ds) u × Walk types (all_events ds) u through v
+pub walk_back_all : (types : TypeTable) (added ds : List EventBlock) → IsCausal types (added ++ ds) → (through : List Event) (u v : Event) → Contains (all_events ds) v → Walk types (all_events (added ++ ds)) u through v → Contains (all_events ds) u × Walk types (all_events ds) u through v
 walk_back_all types [] ds h through u v there walk = begins_inside through u walk
   where
     -- a walk begins at one of the events that it lies among
@@ -20,17 +20,17 @@ walk_back_all types (d ∷ added) ds h through u v there walk =
     walk_back_all types added ds h.1 through u v there one_less.1
 
 -- an event of the older deliveries is reached by the same events as before
-pub reaches_back_all : (types : TypeTable) (added ds : List Delivery) → IsCausal types (added ++ ds) → (u v : Event) → Contains (all_events ds) v → Reaches types (all_events (added ++ ds)) u v → Reaches types (all_events ds) u v
+pub reaches_back_all : (types : TypeTable) (added ds : List EventBlock) → IsCausal types (added ++ ds) → (u v : Event) → Contains (all_events ds) v → Reaches types (all_events (added ++ ds)) u v → Reaches types (all_events ds) u v
 reaches_back_all types [] ds h u v there reaches = reaches
 reaches_back_all types (d ∷ added) ds h u v there reaches =
     reaches_back_all types added ds h.1 u v there (reaches_back types d (added ++ ds) h u v (Contains-grows added ds v there) reaches)
 
 -- more deliveries leave what reaches an event
-pub reaches_grows_all : (types : TypeTable) (added ds : List Delivery) (u v : Event) → Reaches types (all_events ds) u v → Reaches types (all_events (added ++ ds)) u v
+pub reaches_grows_all : (types : TypeTable) (added ds : List EventBlock) (u v : Event) → Reaches types (all_events ds) u v → Reaches types (all_events (added ++ ds)) u v
 reaches_grows_all types [] ds u v reaches = reaches
 reaches_grows_all types (d ∷ added) ds u v reaches = reaches_grows types d (added ++ ds) u v (reaches_grows_all types added ds u v reaches)
 
 -- older deliveries of causal ones are causal
-pub older_are_causal : (types : TypeTable) (added ds : List Delivery) → IsCausal types (added ++ ds) → IsCausal types ds
+pub older_are_causal : (types : TypeTable) (added ds : List EventBlock) → IsCausal types (added ++ ds) → IsCausal types ds
 older_are_causal types [] ds h = h
 older_are_causal types (d ∷ added) ds h = older_are_causal types added ds h.1

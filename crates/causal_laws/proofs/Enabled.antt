@@ -11,19 +11,12 @@ use Rattle.causal_base.specs.declared.event.Event.{Event}
 use Rattle.causal_base.specs.declared.event_id.EventId.{EventId}
 use Rattle.causal_base.specs.Types.{TypeTable}
 use Rattle.causal_base.specs.Event.{Pairs}
-use Rattle.causal_base.specs.History.{Delivery, alone, together, events_of, all_events, count_on, IsNextOfTrace, IsReady, MayFollow, IsCausal}
+use Rattle.causal_base.specs.History.{EventBlock, alone, together, events_of, all_events, count_on, IsNextOfTrace, IsReady, MayFollow, IsCausal}
 use Rattle.causal_base.specs.Past.{came, event_of, delivery_of, deliveries, delivered, IsEnabled, HasNoNext, IsLegalPast}
-use Rattle.causal_base.proofs.Ids.{event_of-member}
-use Rattle.causal_base.proofs.Members.{Contains-cons, Contains-here, Contains-there, Contains-nil}
-use Rattle.causal_base.proofs.Numbered.{IsNumbered, event_at}
-use Rattle.causal_base.proofs.Histories.{numbered, Contains-there_events}
-use Rattle.causal_base.proofs.Pasts.{same_came, event_of-came, delivery_of-one, delivery_of-two, delivery_inside, causal, delivered_came}
-use Rattle.causal_base.proofs.Partners.{pair_came}
-use Rattle.causal_base.proofs.Ready.{delivered_numbered, delivered_from_number, number_from_delivered}
-use Rattle.causal_base.proofs.Newest.{Contains-newest, Contains-split, pairs_swapped, partner_is_new}
+use Rattle.causal_base.proofs.CallerLemmas.{event_of-member, Contains-cons, Contains-here, Contains-there, Contains-nil, IsNumbered, event_at, numbered, Contains-there_events, same_came, event_of-came, delivery_of-one, delivery_of-two, delivery_inside, causal, delivered_came, pair_came, delivered_numbered, delivered_from_number, number_from_delivered, Contains-newest, Contains-split, pairs_swapped, partner_is_new}
 
 -- the partner of a delivered event is delivered
-partner_delivered : (types : TypeTable) (ds : List Delivery) → IsCausal types ds → (x y : Event) → Contains (all_events ds) y → Pairs types x y → (v : Event) × Contains (all_events ds) v × (v.id ≡ x.id)
+partner_delivered : (types : TypeTable) (ds : List EventBlock) → IsCausal types ds → (x y : Event) → Contains (all_events ds) y → Pairs types x y → (v : Event) × Contains (all_events ds) v × (v.id ≡ x.id)
 partner_delivered types [] h x y inside pairs = absurd (Contains-nil y inside)
 partner_delivered types (d ∷ ds) h x y inside pairs = elim (Contains-split d ds y inside) [
   | inl newest ↦ let v = partner_is_new types ds d h x y newest pairs in (v.0, Contains-newest d ds v.0 v.1, v.2)
@@ -69,7 +62,7 @@ module _ (types : TypeTable) (past : List Entry) (legal : IsLegalPast types past
       subst (Contains (delivered past)) (same_came types past legal v.0 x (delivered_came types past legal v.0 v.1) there v.2) v.1
 
   -- what may follow some of the deliveries is delivered, or may follow them all
-  delivered_or_follows : (few : List Delivery) → IsNumbered (all_events few) → AreDelivered past (all_events few) → (d : Delivery) → ((e : Event) → Contains (events_of d) e → Contains (came past) e) → MayFollow types few d → AreDelivered past (events_of d) ⊎ (AreWaiting past (events_of d) × MayFollow types (deliveries past) d)
+  delivered_or_follows : (few : List EventBlock) → IsNumbered (all_events few) → AreDelivered past (all_events few) → (d : EventBlock) → ((e : Event) → Contains (events_of d) e → Contains (came past) e) → MayFollow types few d → AreDelivered past (events_of d) ⊎ (AreWaiting past (events_of d) × MayFollow types (deliveries past) d)
   delivered_or_follows few few_numbered grows (alone e) there follows = elim (delivered_or_next (all_events few) few_numbered grows e (there e (Contains-here e [])) follows.0) [
     | inl gone ↦ inl (λ x inside. elim (Contains-cons e [] x inside) [ inl is ↦ subst (Contains (delivered past)) is gone | inr none ↦ absurd (Contains-nil x none) ])
     | inr next ↦ inr ((not_delivered e next, tt), (next, ready_grows types (all_events few) (delivered past) e grows follows.1))
@@ -97,7 +90,7 @@ module _ (types : TypeTable) (past : List Entry) (legal : IsLegalPast types past
       ]
 
   -- a settled journal delivered what may follow some of its deliveries
-  settled_delivered : HasNoNext types past → (few : List Delivery) → IsNumbered (all_events few) → AreDelivered past (all_events few) → (d : Delivery) → ((e : Event) → Contains (events_of d) e → Contains (came past) e) → MayFollow types few d → AreDelivered past (events_of d)
+  settled_delivered : HasNoNext types past → (few : List EventBlock) → IsNumbered (all_events few) → AreDelivered past (all_events few) → (d : EventBlock) → ((e : Event) → Contains (events_of d) e → Contains (came past) e) → MayFollow types few d → AreDelivered past (events_of d)
   settled_delivered settled few few_numbered grows (alone e) there follows = elim (delivered_or_follows few few_numbered grows (alone e) there follows) [
     | inl gone ↦ gone
     | inr still ↦ absurd (settled (One e.id) (record {
@@ -118,7 +111,7 @@ module _ (types : TypeTable) (past : List Entry) (legal : IsLegalPast types past
   ]
 
   -- a settled journal delivered all that causal deliveries of events that came to it deliver
-  settled_delivers : HasNoNext types past → (ds : List Delivery) → IsCausal types ds → ((e : Event) → Contains (all_events ds) e → Contains (came past) e) → AreDelivered past (all_events ds)
+  settled_delivers : HasNoNext types past → (ds : List EventBlock) → IsCausal types ds → ((e : Event) → Contains (all_events ds) e → Contains (came past) e) → AreDelivered past (all_events ds)
   settled_delivers settled [] h there e inside = absurd (Contains-nil e inside)
   settled_delivers settled (d ∷ ds) h there e inside =
       let before = settled_delivers settled ds h.1 (λ x older. there x (Contains-there_events d (all_events ds) x older)) in
@@ -141,7 +134,7 @@ came_grows (Pair a b ∷ newer) past e inside = came_grows newer past e inside
 came_grows (Ended collector ∷ newer) past e inside = came_grows newer past e inside
 
 -- a block delivers the same after more entries
-delivery_stays : (types : TypeTable) (newer past : List Entry) → IsLegalPast types (newer ++ past) → (block : Block) (d : Delivery) → delivery_of (came past) block ≡ Some d → delivery_of (came (newer ++ past)) block ≡ Some d
+delivery_stays : (types : TypeTable) (newer past : List Entry) → IsLegalPast types (newer ++ past) → (block : Block) (d : EventBlock) → delivery_of (came past) block ≡ Some d → delivery_of (came (newer ++ past)) block ≡ Some d
 delivery_stays types newer past legal (One a) d is =
     let found = delivery_of-one (came past) a d is in
     let member = event_of-member (came past) a found.0 found.1 in

@@ -1,94 +1,33 @@
-use Rattle.std.proofs.Common.{◌≡◌, ◌≢◌, ◌<◌, ◌≤◌, ◌+◌, ◌-◌, ℕ, suc, zero, ◌⊎◌, inl, inr, List, [], ◌∷◌, Bool, true, false, cond, refl, sym, ◌∙◌, ap, subst, arith, eq-eqb}
-use Rattle.std.specs.Prelude.{Contains, ◌↔◌, ◌==◌, ◌&&◌, IsTrue, count_by, nat_le}
-use Rattle.std.proofs.lemmas.Bool.{cases_eq, cases_lt, ne_eqb, eqb-true, leb-true, le-leb, and_parts, and_from, false_from_ne_true}
+use Rattle.std.proofs.Common.{◌≡◌, ◌<◌, ◌≤◌, ◌+◌, ◌-◌, ℕ, suc, zero, ◌⊎◌, inl, inr, List, false, refl, sym, ◌∙◌, ap, subst, arith}
+use Rattle.std.specs.Prelude.{Contains, ◌↔◌, IsTrue}
+use Rattle.std.proofs.lemmas.Bool.{cases_lt}
 use Rattle.causal_base.specs.declared.event.Event.{Event}
 use Rattle.causal_base.specs.Types.{TypeTable}
 use Rattle.causal_base.specs.Event.{Pairs}
 use Rattle.causal_base.specs.Walks.{Step, Reaches}
 use Rattle.causal_base.specs.Clocks.{IsClock}
-use Rattle.causal_base.specs.History.{Delivery, all_events, count_on, IsCausal}
+use Rattle.causal_base.specs.History.{EventBlock, all_events, count_on, IsCausal}
 use Rattle.causal_base.specs.Clusters.{Clustering}
 use Rattle.causal_base.specs.Stamps.{level_of, is_member, IsLastAbove, IsEntry, IsGreatestOfEntries}
 use Rattle.std.proofs.lemmas.List.Elements.{All-contains}
-use Rattle.causal_base.proofs.Ids.{same_id}
-use Rattle.causal_base.proofs.Numbered.{IsNumbered, number_within, event_at, same_event, count_on-same, count_on-other}
-use Rattle.causal_base.proofs.Histories.{numbered}
-use Rattle.causal_laws.proofs.Clocks.{count_by-cons, count_by_agree, and_true, count_by_skip, All-from_members, counts_is_one}
-use Rattle.causal_base.proofs.Reaching.{reaches_on, step_reaches}
-use Rattle.causal_base.proofs.Newest.{pairs_swapped}
-use Rattle.causal_laws.proofs.Limits.{IsLimit, reach_limit, reaches_later}
+use Rattle.causal_base.proofs.CallerLemmas.{same_id, event_at, same_event, numbered, reaches_on, step_reaches, pairs_swapped, IsLimit, reaches_later, clock_from_limit, All-from_members}
+use Rattle.causal_laws.proofs.Clocks.{counts_is_one}
+use Rattle.causal_laws.proofs.Limits.{reach_limit}
 use Rattle.causal_laws.proofs.Levels.{walk_enters}
 
--- the event lies on the trace, and has a number up to the limit
-abbrev is_within : ℕ → ℕ → Event → Bool
-is_within trace limit x = (x.id.trace == trace) && nat_le x.id.number limit
-
-not_on : (trace limit : ℕ) (x : Event) → x.id.trace ≢ trace → is_within trace limit x ≡ false
-not_on trace limit x other = ap (λ b. b && nat_le x.id.number limit) (ne_eqb x.id.trace trace other)
-
-not_below : (trace limit : ℕ) (x : Event) → limit < x.id.number → is_within trace limit x ≡ false
-not_below trace limit x above = false_from_ne_true (is_within trace limit x) (λ passes.
-    let parts = and_parts (x.id.trace == trace) (nat_le x.id.number limit) passes in
-    let below = leb-true x.id.number limit parts.1 in
-    omega (arith, above, below))
-
--- of numbered events so many lie within a limit
-count_within : (events : List Event) → IsNumbered events → (trace limit : ℕ) → limit ≤ count_on trace events → count_by (is_within trace limit) events ≡ limit
-count_within [] h trace limit most = omega (arith, most)
-count_within (e ∷ es) h trace limit most = elim (cases_eq e.id.trace trace) [
-  | inr other ↦
-      let same = count_on-other trace e es other in
-      count_by_skip (is_within trace limit) e es (not_on trace limit e other) ∙ count_within es h.1 trace limit (omega (arith, most, same))
-  | inl on ↦
-      let more = count_on-same trace e es on in
-      let next : e.id.number ≡ count_on trace es + 1 = subst (λ t. e.id.number ≡ count_on t es + 1) on h.0 in
-      elim (cases_lt (count_on trace es) limit) [
-        | inr few ↦ count_by_skip (is_within trace limit) e es (not_below trace limit e (omega (arith, next, few))) ∙ count_within es h.1 trace limit few
-        | inl all ↦
-            let here : is_within trace limit e ≡ true = and_from (e.id.trace == trace) (nat_le e.id.number limit) (eq-eqb e.id.trace trace on) (le-leb e.id.number limit (omega (arith, next, all))) in
-            let rest : count_by (is_within trace limit) es ≡ count_on trace es = count_by_agree (is_within trace limit) (λ x. x.id.trace == trace) es (λ x inside. within all x inside) in
-            let first : count_by (is_within trace limit) (e ∷ es) ≡ 1 + count_by (is_within trace limit) es = count_by-cons (is_within trace limit) e es ∙ ap (λ (b : Bool). cond b 1 0 + count_by (is_within trace limit) es) here in
-            omega (arith, first, rest, most, more, all)
-      ]
-]
-  where
-    within : count_on trace es < limit → (x : Event) → Contains es x → is_within trace limit x ≡ (x.id.trace == trace)
-    within all x inside = elim (cases_eq x.id.trace trace) [
-      | inr other ↦ not_on trace limit x other ∙ sym (ne_eqb x.id.trace trace other)
-      | inl on ↦
-          let its = (number_within es h.1 x inside).1 in
-          let its_too : x.id.number ≤ count_on trace es = subst (λ t. x.id.number ≤ count_on t es) on its in
-          let passes : nat_le x.id.number limit ≡ true = le-leb x.id.number limit (omega (arith, its_too, all)) in
-          ap (λ b. (x.id.trace == trace) && b) passes ∙ and_true (x.id.trace == trace)
-    ]
-
-module _ (types : TypeTable) (history : List Delivery) (causal : IsCausal types history) where
-  -- the limit of what reaches an event is its clock
-  pub clock_from_limit : (e : Event) (trace n : ℕ) → IsLimit (all_events history) trace (λ x. Reaches types (all_events history) x e) n → IsClock types (all_events history) e trace n
-  clock_from_limit e trace n limit = record {
-    test = is_within trace n;
-    decides = All-from_members (λ (x : Event). IsTrue (is_within trace n x) ↔ ((x.id.trace ≡ trace) × Reaches types (all_events history) x e)) (all_events history) (λ x inside. (
-      (λ passes.
-          let parts = and_parts (x.id.trace == trace) (nat_le x.id.number n) passes in
-          let on = eqb-true x.id.trace trace parts.0 in
-          (on, limit.to x inside on (leb-true x.id.number n parts.1))),
-      (λ is. and_from (x.id.trace == trace) (nat_le x.id.number n) (eq-eqb x.id.trace trace is.0) (le-leb x.id.number n (limit.from x inside is.0 is.1))),
-    ));
-    number_is = count_within (all_events history) (numbered types history causal) trace n limit.most;
-  }
-
+module _ (types : TypeTable) (history : List EventBlock) (causal : IsCausal types history) where
   -- and a clock is that limit
   pub limit_from_clock : (e : Event) → Contains (all_events history) e → (trace n : ℕ) → IsClock types (all_events history) e trace n → IsLimit (all_events history) trace (λ x. Reaches types (all_events history) x e) n
   limit_from_clock e inside trace n clock =
       let its = reach_limit types history causal trace e inside in
       subst (λ m. IsLimit (all_events history) trace (λ x. Reaches types (all_events history) x e) m)
-      (counts_is_one (λ x. (x.id.trace ≡ trace) × Reaches types (all_events history) x e) (all_events history) its.0 n (clock_from_limit e trace its.0 its.1) clock) its.1
+      (counts_is_one (λ x. (x.id.trace ≡ trace) × Reaches types (all_events history) x e) (all_events history) its.0 n (clock_from_limit types (all_events history) (numbered types history causal) e trace its.0 its.1) clock) its.1
 
   -- each event has a clock for each trace
   pub has_clock : (e : Event) → Contains (all_events history) e → (trace : ℕ) → (n : ℕ) × IsClock types (all_events history) e trace n
-  has_clock e inside trace = let its = reach_limit types history causal trace e inside in (its.0, clock_from_limit e trace its.0 its.1)
+  has_clock e inside trace = let its = reach_limit types history causal trace e inside in (its.0, clock_from_limit types (all_events history) (numbered types history causal) e trace its.0 its.1)
 
-module _ (types : TypeTable) (clustering : Clustering) (history : List Delivery) (causal : IsCausal types history) (trace level number : ℕ) (most : number ≤ count_on trace (all_events history)) where
+module _ (types : TypeTable) (clustering : Clustering) (history : List EventBlock) (causal : IsCausal types history) (trace level number : ℕ) (most : number ≤ count_on trace (all_events history)) where
   -- no event with a greater level and a number up to the given one has a number above this one
   abbrev NoneAbove : ℕ → Type 0
   NoneAbove j = (x : Event) → Contains (all_events history) x → x.id.trace ≡ trace → x.id.number ≤ number → level < level_of clustering history x.id → x.id.number ≤ j
@@ -117,7 +56,7 @@ module _ (types : TypeTable) (clustering : Clustering) (history : List Delivery)
       let most_y : (number - y.id.number) + y.id.number ≡ number = omega (arith, few) in
       last_from (number - y.id.number) y inside on above (omega (arith, most_y)) (λ x in_x on_x few_x above_x. omega (arith, few_x, most_y))
 
-module _ (types : TypeTable) (clustering : Clustering) (history : List Delivery) (causal : IsCausal types history) (e : Event) (inside : Contains (all_events history) e) (trace : ℕ) (outside : is_member clustering history e.id trace ≡ false) where
+module _ (types : TypeTable) (clustering : Clustering) (history : List EventBlock) (causal : IsCausal types history) (e : Event) (inside : Contains (all_events history) e) (trace : ℕ) (outside : is_member clustering history e.id trace ≡ false) where
   -- the clock of an entry is at most that of the event
   entry_below : (n : ℕ) → IsClock types (all_events history) e trace n → (r : Event) (m : ℕ) → IsEntry types clustering history e r → IsClock types (all_events history) r trace m → m ≤ n
   entry_below n clock r m entry its = elim (cases_lt n m) [

@@ -9,22 +9,19 @@ use Rattle.causal_base.specs.declared.kind.Kind.TheVariants.{Sync}
 use Rattle.causal_base.specs.Types.{TypeTable}
 use Rattle.causal_base.specs.Event.{Fits, Pairs}
 use Rattle.causal_base.specs.Walks.{Step, Walk, Reaches}
-use Rattle.causal_base.specs.History.{Delivery, alone, together, events_of, all_events, IsCausal}
+use Rattle.causal_base.specs.History.{EventBlock, alone, together, events_of, all_events, IsCausal}
 use Rattle.causal_base.specs.Clusters.{Clustering, communications, partition, partition_after, traces_joined, shared_level}
 use Rattle.causal_base.specs.Stamps.{history_of, joined_level, newest_level, level_of, is_member}
-use Rattle.causal_base.proofs.Histories.{same_name, fits_no}
-use Rattle.causal_base.proofs.Members.{Contains-cons, Contains-nil}
-use Rattle.causal_base.proofs.Newest.{ready_no_sync}
+use Rattle.causal_base.proofs.CallerLemmas.{same_name, fits_no, Contains-cons, Contains-nil, ready_no_sync, reaches_step, step_reaches}
 use Rattle.causal_laws.proofs.Partitions.{shared_grows, shares_itself, shared_swapped, shared_up_to, shared_on, shares_at_level}
-use Rattle.causal_base.proofs.Reaching.{reaches_step, step_reaches}
 use Rattle.causal_laws.proofs.OwnHistories.{delivered_at, own_delivery, own_causal, history_within}
 
 -- a delivery joins these two traces, in one order or the other
-abbrev Joins : Delivery → ℕ → ℕ → Type 0
+abbrev Joins : EventBlock → ℕ → ℕ → Type 0
 Joins d t u = (traces_joined d ≡ Some (t, u)) ⊎ (traces_joined d ≡ Some (u, t))
 
 -- the delivery of an event joins its trace and that of another event which it fits, or with which it pairs
-joins_its : (types : TypeTable) (d : Delivery) (past : List Delivery) → IsCausal types (d ∷ past) → (x y : Event) → Contains (events_of d) y → Fits types y x ⊎ Pairs types x y → Joins d y.id.trace x.id.trace
+joins_its : (types : TypeTable) (d : EventBlock) (past : List EventBlock) → IsCausal types (d ∷ past) → (x y : Event) → Contains (events_of d) y → Fits types y x ⊎ Pairs types x y → Joins d y.id.trace x.id.trace
 joins_its types (alone e) past causal x y inside cause = elim (Contains-cons e [] y inside) [
   | inr none ↦ absurd (Contains-nil y none)
   | inl is ↦ subst (λ (v : Event). Joins (alone e) v.id.trace x.id.trace) is
@@ -51,7 +48,7 @@ joins_its types (together a b) past causal x y inside cause = elim (Contains-con
 
 module _ (clustering : Clustering) where
   -- traces that a delivery joins share a cluster at its level
-  shares_at_newest : (d : Delivery) (past : List Delivery) (t u : ℕ) → Joins d t u → partition_after clustering (d ∷ past) (newest_level clustering (d ∷ past)) t u ≡ true
+  shares_at_newest : (d : EventBlock) (past : List EventBlock) (t u : ℕ) → Joins d t u → partition_after clustering (d ∷ past) (newest_level clustering (d ∷ past)) t u ≡ true
   shares_at_newest d past t u joins = elim joins [
     | inl is ↦ at_level (t, u) is
     | inr is ↦ shared_swapped clustering (communications (d ∷ past)) (newest_level clustering (d ∷ past)) u t (at_level (u, t) is)
@@ -63,27 +60,27 @@ module _ (clustering : Clustering) where
           ap (λ k. partition_after clustering (d ∷ past) k traces.0 traces.1) level ∙ shares_at_level clustering (communications (d ∷ past)) traces
 
   -- clusters only grow from delivery to delivery
-  pub after_grows : (newer older : List Delivery) (level t u : ℕ) → partition_after clustering older level t u ≡ true → partition_after clustering (newer ++ older) level t u ≡ true
+  pub after_grows : (newer older : List EventBlock) (level t u : ℕ) → partition_after clustering older level t u ≡ true → partition_after clustering (newer ++ older) level t u ≡ true
   after_grows [] older level t u shared = shared
   after_grows (d ∷ newer) older level t u shared =
       let rest = after_grows newer older level t u shared in
       elim (traces_joined d) as (λ o. partition clustering (cons_option o (communications (newer ++ older))) level t u ≡ true)
       [ None ↦ rest | Some traces ↦ shared_grows clustering (communications (newer ++ older)) traces level t u rest ]
 
-module _ (types : TypeTable) (clustering : Clustering) (history : List Delivery) (causal : IsCausal types history) where
+module _ (types : TypeTable) (clustering : Clustering) (history : List EventBlock) (causal : IsCausal types history) where
   -- the trace of an event that an event fits, or with which it pairs, is one of its members
   pub cause_is_member : (x y : Event) → Contains (all_events history) y → Fits types y x ⊎ Pairs types x y → is_member clustering history y.id x.id.trace ≡ true
   cause_is_member x y inside cause =
       let at = delivered_at history y inside in
       let joins = joins_its types at.delivery at.past (own_causal types history causal y at) x y (own_delivery types history causal y inside at) cause in
-      ap (λ (ds : List Delivery). partition_after clustering ds (newest_level clustering ds) y.id.trace x.id.trace) at.own
+      ap (λ (ds : List EventBlock). partition_after clustering ds (newest_level clustering ds) y.id.trace x.id.trace) at.own
       ∙ shares_at_newest clustering at.delivery at.past y.id.trace x.id.trace joins
 
   -- what reaches an event was delivered with it or before, and clusters only grow
   pub stays_shared : (y f : Event) → Contains (all_events history) f → Reaches types (all_events history) y f → (level t u : ℕ) → partition_after clustering (history_of y.id history) level t u ≡ true → partition_after clustering (history_of f.id history) level t u ≡ true
   stays_shared y f inside reaches level t u shared =
       let within = history_within types history causal y f inside reaches in
-      ap (λ (ds : List Delivery). partition_after clustering ds level t u) within.1
+      ap (λ (ds : List EventBlock). partition_after clustering ds level t u) within.1
       ∙ after_grows clustering within.0 (history_of y.id history) level t u shared
 
   -- A step that leads from outside of the members of an event to one of them, and on to the event, ends at an event of

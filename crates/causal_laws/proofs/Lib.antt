@@ -12,3 +12,9 @@ pub mod Entries
 pub mod Enabled
 pub mod WorkedStamps
 pub mod WorkedClocks
+pub mod Orders
+pub mod Sizes
+pub mod StampLaws
+pub mod VectorLaws
+pub mod Lengths
+pub mod InTurnLaws

@@ -1,4 +1,4 @@
-use Rattle.std.proofs.Common.{◌≡◌, ◌≤◌, ◌+◌, ◌-◌, ℕ, suc, zero, ◌⊎◌, inl, inr, List, [], ◌∷◌, sym, ◌∙◌, ap, subst, arith}
+use Rattle.std.proofs.Common.{◌≡◌, ◌≤◌, ◌+◌, ℕ, ◌⊎◌, inl, inr, List, [], ◌∷◌, sym, ◌∙◌, ap, subst, arith}
 use Rattle.std.specs.Prelude.{Contains, ◌↔◌}
 use Rattle.std.proofs.lemmas.Bool.{cases_eq, cases_lt}
 use Rattle.causal_base.specs.declared.event.Event.{Event}
@@ -6,43 +6,9 @@ use Rattle.causal_base.specs.declared.kind.Kind.TheVariants.{Unary, Send, Sync}
 use Rattle.causal_base.specs.Types.{TypeTable}
 use Rattle.causal_base.specs.Event.{Fits, Pairs}
 use Rattle.causal_base.specs.Walks.{Succeeds, Step, Reaches}
-use Rattle.causal_base.specs.History.{Delivery, alone, together, events_of, all_events, count_on, IsNextOfTrace, IsReady, IsCausal}
-use Rattle.causal_base.proofs.Ids.{same_id}
-use Rattle.causal_base.proofs.Members.{Contains-cons, Contains-here, Contains-there, Contains-nil}
-use Rattle.causal_base.proofs.Numbered.{IsNumbered, number_within, event_at, same_event}
-use Rattle.causal_base.proofs.Histories.{same_name, fits_no, numbered, reaches_back, reaches_grows, Contains-there_events}
-use Rattle.causal_base.proofs.Reaching.{reaches_step, reaches_on, reaches_itself, step_reaches}
-use Rattle.causal_base.proofs.Newest.{Contains-newest, Contains-split, newest_is_next, ReachesSource, newest_reach, goes_by_source}
+use Rattle.causal_base.specs.History.{EventBlock, alone, together, events_of, all_events, count_on, IsNextOfTrace, IsReady, IsCausal}
+use Rattle.causal_base.proofs.CallerLemmas.{same_id, Contains-cons, Contains-here, Contains-there, Contains-nil, IsNumbered, number_within, event_at, same_event, same_name, fits_no, numbered, reaches_back, reaches_grows, Contains-there_events, reaches_step, reaches_on, Contains-newest, Contains-split, newest_is_next, ReachesSource, newest_reach, goes_by_source, IsLimit, reaches_later}
 use Rattle.causal_laws.proofs.Clocks.{count_on-added}
-
-module _ (types : TypeTable) (events : List Event) (all_numbered : IsNumbered events) where
-  reaches_after : (more : ℕ) (x y : Event) → Contains events x → Contains events y → x.id.trace ≡ y.id.trace → y.id.number ≡ more + x.id.number → Reaches types events x y
-  reaches_after zero x y in_x in_y trace number =
-      let same_number : x.id.number ≡ y.id.number = omega (arith, number) in
-      let same = same_event events all_numbered x y in_x in_y (same_id x.id y.id trace same_number) in
-      subst (λ (v : Event). Reaches types events x v) same (reaches_itself types events x in_x)
-  reaches_after (suc more) x y in_x in_y trace number =
-      let least_x = (number_within events all_numbered x in_x).0 in
-      let most_y = (number_within events all_numbered y in_y).1 in
-      let least : 1 ≤ more + x.id.number = omega (arith, least_x) in
-      let most : more + x.id.number ≤ count_on y.id.trace events = omega (arith, most_y, number) in
-      let z = event_at events all_numbered y.id.trace (more + x.id.number) least most in
-      let before = reaches_after more x z.0 in_x z.1 (trace ∙ sym z.2) z.3 in
-      let next : y.id.number ≡ z.0.id.number + 1 = omega (arith, number, z.3) in
-      let step : Step types events z.0 y = record { from = z.1; to = in_y; cause = inl (record { trace = sym z.2; number = next }) } in
-      reaches_on types events x z.0 y before (step_reaches types events z.0 y step)
-
-  -- an event reaches the later ones of its trace
-  pub reaches_later : (x y : Event) → Contains events x → Contains events y → x.id.trace ≡ y.id.trace → x.id.number ≤ y.id.number → Reaches types events x y
-  reaches_later x y in_x in_y trace order =
-      let more : y.id.number ≡ (y.id.number - x.id.number) + x.id.number = omega (arith, order) in
-      reaches_after (y.id.number - x.id.number) x y in_x in_y trace more
-
--- The events of the trace that have the property are those with a number up to the limit.
-pub record IsLimit (events : List Event) (trace : ℕ) (Property : Event → Type 0) (limit : ℕ) : Type 0 where
-  pub most : limit ≤ count_on trace events
-  pub to : (x : Event) → Contains events x → x.id.trace ≡ trace → x.id.number ≤ limit → Property x
-  pub from : (x : Event) → Contains events x → x.id.trace ≡ trace → Property x → x.id.number ≤ limit
 
 abbrev pub HasLimit : List Event → ℕ → (Event → Type 0) → Type 0
 HasLimit events trace Property = (limit : ℕ) × IsLimit events trace Property limit
@@ -109,7 +75,7 @@ ready_fits_one types events w ready = elim ready [
       [ inl send ↦ inl (λ z fits. fits_no types w z Send fits send (λ p. cc) (λ p. cc)) | inr cause ↦ inr cause ]
 ]
 
-module _ (types : TypeTable) (ds : List Delivery) (causal : IsCausal types ds) (trace : ℕ) (limits : (e : Event) → Contains (all_events ds) e → HasLimit (all_events ds) trace (λ x. Reaches types (all_events ds) x e)) where
+module _ (types : TypeTable) (ds : List EventBlock) (causal : IsCausal types ds) (trace : ℕ) (limits : (e : Event) → Contains (all_events ds) e → HasLimit (all_events ds) trace (λ x. Reaches types (all_events ds) x e)) where
   -- what reaches the event before the next of a trace
   before_next : (w : Event) → IsNextOfTrace (all_events ds) w → HasLimit (all_events ds) trace (λ x. (z : Event) × Contains (all_events ds) z × Reaches types (all_events ds) x z × Succeeds z w)
   before_next w next = elim (cases_lt 0 (count_on w.id.trace (all_events ds))) [
@@ -152,7 +118,7 @@ module _ (types : TypeTable) (ds : List Delivery) (causal : IsCausal types ds) (
       )) (limit_either (all_events ds) (numbered types ds causal) trace _ _ (before_next w next) (before_fit w one))
 
   -- what reaches a source of the newest delivery
-  before_newest : (d : Delivery) → IsCausal types (d ∷ ds) → HasLimit (all_events ds) trace (λ x. (w : Event) × Contains (events_of d) w × ReachesSource types (all_events ds) w x)
+  before_newest : (d : EventBlock) → IsCausal types (d ∷ ds) → HasLimit (all_events ds) trace (λ x. (w : Event) × Contains (events_of d) w × ReachesSource types (all_events ds) w x)
   before_newest (alone e) new =
       limit_same (all_events ds) (numbered types ds causal) trace (λ x. ReachesSource types (all_events ds) e x) _ (λ x inside on. (
         (λ source. (e, Contains-here e [], source)),
@@ -173,7 +139,7 @@ module _ (types : TypeTable) (ds : List Delivery) (causal : IsCausal types ds) (
       (before_one b new.0.1 (inl (λ z fits. fits_no types b z Sync fits new.0.2.second (λ p. cc) (λ p. cc)))))
 
 -- a delivery has an event on this trace, or none
-on_newest : (d : Delivery) (trace : ℕ) → ((w : Event) × Contains (events_of d) w × (w.id.trace ≡ trace)) ⊎ ((w : Event) → Contains (events_of d) w → w.id.trace ≡ trace → ⊥)
+on_newest : (d : EventBlock) (trace : ℕ) → ((w : Event) × Contains (events_of d) w × (w.id.trace ≡ trace)) ⊎ ((w : Event) → Contains (events_of d) w → w.id.trace ≡ trace → ⊥)
 on_newest (alone e) trace = elim (cases_eq e.id.trace trace) [
   | inl is ↦ inl (e, Contains-here e [], is)
   | inr other ↦ inr (λ w inside on. other (elim (Contains-cons e [] w inside)
@@ -191,7 +157,7 @@ on_newest (together a b) trace = elim (cases_eq a.id.trace trace) [
   ]
 ]
 
-module _ (types : TypeTable) (d : Delivery) (ds : List Delivery) (causal : IsCausal types (d ∷ ds)) (trace : ℕ) where
+module _ (types : TypeTable) (d : EventBlock) (ds : List EventBlock) (causal : IsCausal types (d ∷ ds)) (trace : ℕ) where
   most_grows : (limit : ℕ) → limit ≤ count_on trace (all_events ds) → limit ≤ count_on trace (all_events (d ∷ ds))
   most_grows limit most = let grows = count_on-added trace (d ∷ []) ds in omega (arith, most, grows)
 
@@ -227,26 +193,23 @@ module _ (types : TypeTable) (d : Delivery) (ds : List Delivery) (causal : IsCau
   ]
 
   -- on another trace the limit is that of the sources
-  limit_of_new : (e : Event) → Contains (events_of d) e → ((w : Event) → Contains (events_of d) w → w.id.trace ≡ trace → ⊥) → HasLimit (all_events ds) trace (λ x. (w : Event) × Contains (events_of d) w × ReachesSource types (all_events ds) w x) → HasLimit (all_events (d ∷ ds)) trace (λ x. Reaches types (all_events (d ∷ ds)) x e)
-  limit_of_new e new none its = (
-    its.0,
-    record {
-      most = most_grows its.0 its.1.most;
-      to = λ x inside on few.
-          let by = its.1.to x (older_by_limit its.0 its.1.most x inside on few) on few in
-          let cause : Succeeds by.2.0 by.0 ⊎ (Fits types by.0 by.2.0 ⊎ Pairs types by.2.0 by.0) = elim by.2.3 [ inl succeeds ↦ inl succeeds | inr fits ↦ inr (inl fits) ] in
-          let step : Step types (all_events (d ∷ ds)) by.2.0 by.0 = record { from = Contains-there_events d (all_events ds) by.2.0 by.2.1; to = Contains-newest d ds by.0 by.1; cause = cause } in
-          reaches_on types (all_events (d ∷ ds)) x by.2.0 e (reaches_grows types d ds x by.2.0 by.2.2)
-          (reaches_step types (all_events (d ∷ ds)) by.2.0 by.0 e step (newest_reach types ds d causal by.0 e by.1 new));
-      from = λ x inside on reaches. elim (Contains-split d ds x inside) [
-        | inl newest ↦ absurd (none x newest on)
-        | inr old ↦ its.1.from x old on (goes_by_source types ds d causal reaches.through x e old new reaches.walk)
-      ];
-    },
-  )
+  pub limit_of_new : (e : Event) → Contains (events_of d) e → ((w : Event) → Contains (events_of d) w → w.id.trace ≡ trace → ⊥) → (limit : ℕ) → IsLimit (all_events ds) trace (λ x. (w : Event) × Contains (events_of d) w × ReachesSource types (all_events ds) w x) limit → IsLimit (all_events (d ∷ ds)) trace (λ x. Reaches types (all_events (d ∷ ds)) x e) limit
+  limit_of_new e new none limit its = record {
+    most = most_grows limit its.most;
+    to = λ x inside on few.
+        let by = its.to x (older_by_limit limit its.most x inside on few) on few in
+        let cause : Succeeds by.2.0 by.0 ⊎ (Fits types by.0 by.2.0 ⊎ Pairs types by.2.0 by.0) = elim by.2.3 [ inl succeeds ↦ inl succeeds | inr fits ↦ inr (inl fits) ] in
+        let step : Step types (all_events (d ∷ ds)) by.2.0 by.0 = record { from = Contains-there_events d (all_events ds) by.2.0 by.2.1; to = Contains-newest d ds by.0 by.1; cause = cause } in
+        reaches_on types (all_events (d ∷ ds)) x by.2.0 e (reaches_grows types d ds x by.2.0 by.2.2)
+        (reaches_step types (all_events (d ∷ ds)) by.2.0 by.0 e step (newest_reach types ds d causal by.0 e by.1 new));
+    from = λ x inside on reaches. elim (Contains-split d ds x inside) [
+      | inl newest ↦ absurd (none x newest on)
+      | inr old ↦ its.from x old on (goes_by_source types ds d causal reaches.through x e old new reaches.walk)
+    ];
+  }
 
 -- each event has a limit of what reaches it, on each trace
-pub reach_limit : (types : TypeTable) (ds : List Delivery) → IsCausal types ds → (trace : ℕ) (e : Event) → Contains (all_events ds) e → HasLimit (all_events ds) trace (λ x. Reaches types (all_events ds) x e)
+pub reach_limit : (types : TypeTable) (ds : List EventBlock) → IsCausal types ds → (trace : ℕ) (e : Event) → Contains (all_events ds) e → HasLimit (all_events ds) trace (λ x. Reaches types (all_events ds) x e)
 reach_limit types [] causal trace e inside = absurd (Contains-nil e inside)
 reach_limit types (d ∷ ds) causal trace e inside = elim (Contains-split d ds e inside) [
   | inr old ↦ limit_of_old types d ds causal trace e old (reach_limit types ds causal.1 trace e old)
@@ -255,6 +218,8 @@ reach_limit types (d ∷ ds) causal trace e inside = elim (Contains-split d ds e
         reaches_on types (all_events (d ∷ ds)) x some.0 e
         (reaches_newest types d ds causal trace x some.0 there some.1 (on ∙ sym some.2))
         (newest_reach types ds d causal some.0 e some.1 new))
-    | inr none ↦ limit_of_new types d ds causal trace e new none (before_newest types ds causal.1 trace (λ v old. reach_limit types ds causal.1 trace v old) d causal)
+    | inr none ↦
+        let its = before_newest types ds causal.1 trace (λ v old. reach_limit types ds causal.1 trace v old) d causal in
+        (its.0, limit_of_new types d ds causal trace e new none its.0 its.1)
   ]
 ]

@@ -11,13 +11,9 @@ use Rattle.causal_base.specs.declared.event_id.EventId.{EventId}
 use Rattle.causal_base.specs.declared.kind.Kind.TheVariants.{Sync}
 use Rattle.causal_base.specs.Types.{TypeTable}
 use Rattle.causal_base.specs.Event.{IsOfKind, Pairs}
-use Rattle.causal_base.specs.History.{Delivery, alone, together, events_of, all_events, MayFollow}
+use Rattle.causal_base.specs.History.{EventBlock, alone, together, events_of, all_events, MayFollow}
 use Rattle.causal_base.specs.Past.{came, delivery_of, deliveries, delivered, IsEnabled, IsLegalPast}
-use Rattle.causal_base.proofs.Ids.{event_of-member}
-use Rattle.causal_base.proofs.Members.{Contains-cons, Contains-here, Contains-there, Contains-nil, Contains-one}
-use Rattle.causal_base.proofs.Histories.{Contains-there_events}
-use Rattle.causal_base.proofs.Newest.{Contains-newest, Contains-split, ready_no_sync, pairs_swapped}
-use Rattle.causal_base.proofs.Pasts.{delivery_of-one, delivery_of-two, deliveries-next}
+use Rattle.causal_base.proofs.CallerLemmas.{event_of-member, Contains-cons, Contains-here, Contains-there, Contains-nil, Contains-one, Contains-there_events, Contains-newest, Contains-split, ready_no_sync, pairs_swapped, delivery_of-one, delivery_of-two, deliveries-next}
 
 -- a journal has the same entries oldest first and newest first
 pub Contains-reversed : (journal : List Entry) (entry : Entry) → Contains journal entry → Contains (reverse journal) entry
@@ -39,17 +35,17 @@ pub record PairAmong (types : TypeTable) (events : List Event) (a b : EventId) :
   pub lower : a.trace < b.trace
 
 -- what a block delivered is among the events delivered then
-among_newest : (past : List Entry) (block : Block) (d : Delivery) → delivery_of (came past) block ≡ Some d → (x : Event) → Contains (events_of d) x → Contains (all_events (option_to_list (delivery_of (came past) block) ++ deliveries past)) x
+among_newest : (past : List Entry) (block : Block) (d : EventBlock) → delivery_of (came past) block ≡ Some d → (x : Event) → Contains (events_of d) x → Contains (all_events (option_to_list (delivery_of (came past) block) ++ deliveries past)) x
 among_newest past block d is x inside =
     subst (λ ds. Contains (all_events ds) x) (sym (deliveries-next (came past) block d (deliveries past) is)) (Contains-newest d (deliveries past) x inside)
 
 -- and so is what was delivered before
-among_older : (past : List Entry) (block : Block) (d : Delivery) → delivery_of (came past) block ≡ Some d → (x : Event) → Contains (delivered past) x → Contains (all_events (option_to_list (delivery_of (came past) block) ++ deliveries past)) x
+among_older : (past : List Entry) (block : Block) (d : EventBlock) → delivery_of (came past) block ≡ Some d → (x : Event) → Contains (delivered past) x → Contains (all_events (option_to_list (delivery_of (came past) block) ++ deliveries past)) x
 among_older past block d is x inside =
     subst (λ ds. Contains (all_events ds) x) (sym (deliveries-next (came past) block d (deliveries past) is)) (Contains-there_events d (delivered past) x inside)
 
 -- what is delivered then is of that block, or was delivered before
-among_either : (past : List Entry) (block : Block) (d : Delivery) → delivery_of (came past) block ≡ Some d → (x : Event) → Contains (all_events (option_to_list (delivery_of (came past) block) ++ deliveries past)) x → Contains (events_of d) x ⊎ Contains (delivered past) x
+among_either : (past : List Entry) (block : Block) (d : EventBlock) → delivery_of (came past) block ≡ Some d → (x : Event) → Contains (all_events (option_to_list (delivery_of (came past) block) ++ deliveries past)) x → Contains (events_of d) x ⊎ Contains (delivered past) x
 among_either past block d is x inside =
     Contains-split d (deliveries past) x (subst (λ ds. Contains (all_events ds) x) (deliveries-next (came past) block d (deliveries past) is) inside)
 

@@ -4,10 +4,7 @@ use Rattle.causal_base.specs.declared.event.Event.{Event}
 use Rattle.causal_base.specs.Types.{TypeTable}
 use Rattle.causal_base.specs.Event.{Pairs}
 use Rattle.causal_base.specs.Walks.{Walk, Reaches, IsBefore}
-use Rattle.causal_base.proofs.Numbered.{IsNumbered, same_event}
-use Rattle.causal_base.proofs.Histories.{same_name}
-use Rattle.causal_base.proofs.Reaching.{reaches_on, step_reaches}
-use Rattle.causal_base.proofs.Newest.{pairs_swapped}
+use Rattle.causal_base.proofs.CallerLemmas.{IsNumbered, same_event, same_name, reaches_on, step_reaches, pairs_swapped}
 
 -- a walk ends at one of the events that it lies among
 walk_ends : (types : TypeTable) (events : List Event) (through : List Event) (x e : Event) → Contains events x → Walk types events x through e → Contains events e

@@ -6,11 +6,10 @@ use Rattle.causal_base.specs.declared.entry.Entry.{Entry}
 use Rattle.causal_base.specs.declared.entry.Entry.TheVariants.{Came, Gone, Pair, Ended}
 use Rattle.causal_base.specs.declared.event.Event.{Event}
 use Rattle.causal_base.specs.Types.{TypeTable}
-use Rattle.causal_base.specs.History.{Delivery, all_events, IsCausal}
+use Rattle.causal_base.specs.History.{EventBlock, all_events, IsCausal}
 use Rattle.causal_base.specs.Past.{came, delivery_of, deliveries, IsLegalPast}
 use Rattle.causal_base.specs.Journal.{IsLegal, delivered_by}
-use Rattle.causal_base.proofs.Histories.{Contains-there_events}
-use Rattle.causal_base.proofs.Pasts.{causal}
+use Rattle.causal_base.proofs.CallerLemmas.{Contains-there_events, causal}
 
 -- what stands before newer entries of a legal past is a legal past
 older_is_legal : (types : TypeTable) (newer past : List Entry) → IsLegalPast types (newer ++ past) → IsLegalPast types past
@@ -18,7 +17,7 @@ older_is_legal types [] past h = h
 older_is_legal types (entry ∷ newer) past h = older_is_legal types newer past h.1
 
 -- newer entries put deliveries before the older ones
-deliveries-append : (newer past : List Entry) → (added : List Delivery) × (deliveries (newer ++ past) ≡ added ++ deliveries past)
+deliveries-append : (newer past : List Entry) → (added : List EventBlock) × (deliveries (newer ++ past) ≡ added ++ deliveries past)
 deliveries-append [] past = ([], refl)
 deliveries-append (Came collector e ∷ newer) past = deliveries-append newer past
 deliveries-append (Gone a ∷ newer) past =
@@ -32,7 +31,7 @@ deliveries-append (Pair a b ∷ newer) past =
 deliveries-append (Ended collector ∷ newer) past = deliveries-append newer past
 
 -- a member of the older events is a member after more deliveries
-pub Contains-grows : (added ds : List Delivery) (x : Event) → Contains (all_events ds) x → Contains (all_events (added ++ ds)) x
+pub Contains-grows : (added ds : List EventBlock) (x : Event) → Contains (all_events ds) x → Contains (all_events (added ++ ds)) x
 Contains-grows [] ds x h = h
 Contains-grows (d ∷ added) ds x h = Contains-there_events d (all_events (added ++ ds)) x (Contains-grows added ds x h)
 
@@ -50,11 +49,11 @@ module _ (types : TypeTable) (journal more : List Entry) (legal : IsLegal types 
   prefix_is_legal = older_is_legal types (reverse more) (reverse journal) legal_behind
 
   -- the deliveries that the rest of the journal adds, newest first
-  pub added : List Delivery
+  pub added : List EventBlock
   added = (deliveries-append (reverse more) (reverse journal)).0
 
   -- they stand before those of the beginning
-  deliveries_with_added : deliveries (reverse (journal ++ more)) ≡ added ++ deliveries (reverse journal)
+  pub deliveries_with_added : deliveries (reverse (journal ++ more)) ≡ added ++ deliveries (reverse journal)
   unfolding added
   deliveries_with_added = ap deliveries newest_first ∙ (deliveries-append (reverse more) (reverse journal)).1
 

@@ -10,16 +10,10 @@ use Rattle.causal_base.specs.Types.{TypeTable, builtin_types, kind_of, mate_of}
 use Rattle.causal_base.specs.Event.{Fits, Pairs}
 use Rattle.causal_base.specs.Walks.{Succeeds, Step, Walk, Reaches}
 use Rattle.causal_base.specs.Clocks.{IsClock}
-use Rattle.causal_base.specs.History.{Delivery, all_events, IsCausal}
+use Rattle.causal_base.specs.History.{EventBlock, all_events, IsCausal}
 use Rattle.causal_base.specs.Past.{is_same_id, event_of}
 use Rattle.causal_base.specs.Stamps.{history_of, IsStamp}
-use Rattle.causal_base.proofs.Ids.{make_id, is_same_id-same, same_from_is_same_id, event_of-member}
-use Rattle.causal_base.proofs.Members.{Contains-cons, Contains-nil}
-use Rattle.causal_base.proofs.Numbered.{IsNumbered, number_within}
-use Rattle.causal_base.proofs.Histories.{numbered}
-use Rattle.causal_base.proofs.Reaching.{reaches_on}
-use Rattle.causal_laws.proofs.Limits.{reaches_later}
-use Rattle.causal_laws.proofs.Entries.{clock_from_limit}
+use Rattle.causal_base.proofs.CallerLemmas.{make_id, is_same_id-same, same_from_is_same_id, event_of-member, Contains-cons, Contains-nil, IsNumbered, number_within, numbered, reaches_on, reaches_later, clock_from_limit}
 use Rattle.causal_laws.proofs.WorkedStamps.{unary, send, receive, chain, five, own, twice, at_first, at_second, two_and_four}
 
 -- a cut is one count a trace; the id is within it
@@ -70,7 +64,7 @@ walk_stays types events cut closed (y ∷ through) x e walk within =
     step_stays types events cut closed x y walk.0 (walk_stays types events cut closed through y e walk.1 within)
 
 -- Deliveries of events of the built-in types, and a closed cut of them that has this event.
-record ClosedCut (traces : ℕ) (history : List Delivery) (e : Event) : Type 0 where
+record ClosedCut (traces : ℕ) (history : List EventBlock) (e : Event) : Type 0 where
   causal : IsCausal (builtin_types traces) history
   counts : List ℕ
   closed : is_closed counts (all_events history) ≡ true
@@ -126,10 +120,10 @@ walk_of traces events x inside (y ∷ through) e steps =
     let there = (event_of-member events y.id y steps.0).0 in
     (record { from = inside; to = there; cause = step_cause traces x y steps.1 }, walk_of traces events y there through e steps.2)
 
-module _ {traces : ℕ} {history : List Delivery} {e : Event} (cut : ClosedCut traces history e) where
+module _ {traces : ℕ} {history : List EventBlock} {e : Event} (cut : ClosedCut traces history e) where
   -- nothing of a trace without events in the cut reaches the event
   none : (trace : ℕ) → slice_index cut.counts trace ≡ 0 → IsClock (builtin_types traces) (all_events history) e trace (slice_index cut.counts trace)
-  none trace is = clock_from_limit (builtin_types traces) history cut.causal e trace (slice_index cut.counts trace) (record {
+  none trace is = clock_from_limit (builtin_types traces) (all_events history) (numbered (builtin_types traces) history cut.causal) e trace (slice_index cut.counts trace) (record {
     most = omega (arith, is);
     to = λ x inside on few. let least = (number_within (all_events history) (numbered (builtin_types traces) history cut.causal) x inside).0 in absurd (omega (arith, least, few, is));
     from = outside;
@@ -142,7 +136,7 @@ module _ {traces : ℕ} {history : List Delivery} {e : Event} (cut : ClosedCut t
 
   -- the last event of a trace in the cut reaches the event through these
   by : (last : Event) → event_of (all_events history) last.id ≡ Some last → last.id.number ≡ slice_index cut.counts last.id.trace → (through : List Event) → AreSteps (all_events history) last through e → IsClock (builtin_types traces) (all_events history) e last.id.trace (slice_index cut.counts last.id.trace)
-  by last found is through steps = clock_from_limit (builtin_types traces) history cut.causal e last.id.trace (slice_index cut.counts last.id.trace) (record {
+  by last found is through steps = clock_from_limit (builtin_types traces) (all_events history) (numbered (builtin_types traces) history cut.causal) e last.id.trace (slice_index cut.counts last.id.trace) (record {
     most = (let its = (number_within (all_events history) in_turn last inside).1 in omega (arith, its, is));
     to = λ x in_x on few.
         let order : x.id.number ≤ last.id.number = omega (arith, few, is) in
@@ -166,27 +160,31 @@ fits traces trace number sender its = fits_received traces (send sender its) (re
 chain_is_causal : IsCausal (builtin_types 3) chain
 chain_is_causal = ((refl, inl refl), ((refl, inr (inr (send 1 2, (0, omega arith, refl), fits 3 2 1 1 2))), ((refl, inr (inl refl)), ((refl, inr (inr (send 0 1, (0, omega arith, refl), fits 3 1 1 0 1))), ((refl, inr (inl refl)), tt)))))
 
+-- an event that is found among deliveries is of them
+among : (history : List EventBlock) (e : Event) → event_of (all_events history) e.id ≡ Some e → Contains (all_events history) e
+among history e found = (event_of-member (all_events history) e.id e found).0
+
 -- the chain of three traces
 chain_0_1 : IsStamp (builtin_types 3) (at_first 3 (2 ∷ [])) chain (send 0 1) (record { level = 1; members = 0 ∷ []; clock = 1 ∷ [] })
-chain_0_1 = record { level = refl; members = refl; clock = (by cut (send 0 1) refl refl [] refl, tt) }
+chain_0_1 = record { delivered = among chain (send 0 1) refl; level = refl; members = refl; clock = (by cut (send 0 1) refl refl [] refl, tt) }
   where
     cut : ClosedCut 3 (history_of (make_id 0 1) chain) (send 0 1)
     cut = record { causal = chain_is_causal.1.1.1.1; counts = 1 ∷ 0 ∷ 0 ∷ []; closed = refl; within = refl }
 
 chain_1_1 : IsStamp (builtin_types 3) (at_first 3 (2 ∷ [])) chain (receive 1 1 (make_id 0 1)) (record { level = 1; members = 0 ∷ 1 ∷ []; clock = 1 ∷ 1 ∷ [] })
-chain_1_1 = record { level = refl; members = refl; clock = (by cut (send 0 1) refl refl (receive 1 1 (make_id 0 1) ∷ []) (refl, refl, refl), (by cut (receive 1 1 (make_id 0 1)) refl refl [] refl, tt)) }
+chain_1_1 = record { delivered = among chain (receive 1 1 (make_id 0 1)) refl; level = refl; members = refl; clock = (by cut (send 0 1) refl refl (receive 1 1 (make_id 0 1) ∷ []) (refl, refl, refl), (by cut (receive 1 1 (make_id 0 1)) refl refl [] refl, tt)) }
   where
     cut : ClosedCut 3 (history_of (make_id 1 1) chain) (receive 1 1 (make_id 0 1))
     cut = record { causal = chain_is_causal.1.1.1; counts = 1 ∷ 1 ∷ 0 ∷ []; closed = refl; within = refl }
 
 chain_2_1 : IsStamp (builtin_types 3) (at_first 3 (2 ∷ [])) chain (receive 2 1 (make_id 1 2)) (record { level = 2; members = 0 ∷ 1 ∷ 2 ∷ []; clock = 1 ∷ 2 ∷ 1 ∷ [] })
-chain_2_1 = record { level = refl; members = refl; clock = (by cut (send 0 1) refl refl (receive 1 1 (make_id 0 1) ∷ send 1 2 ∷ receive 2 1 (make_id 1 2) ∷ []) (refl, refl, (refl, refl, (refl, refl, refl))), (by cut (send 1 2) refl refl (receive 2 1 (make_id 1 2) ∷ []) (refl, refl, refl), (by cut (receive 2 1 (make_id 1 2)) refl refl [] refl, tt))) }
+chain_2_1 = record { delivered = among chain (receive 2 1 (make_id 1 2)) refl; level = refl; members = refl; clock = (by cut (send 0 1) refl refl (receive 1 1 (make_id 0 1) ∷ send 1 2 ∷ receive 2 1 (make_id 1 2) ∷ []) (refl, refl, (refl, refl, (refl, refl, refl))), (by cut (send 1 2) refl refl (receive 2 1 (make_id 1 2) ∷ []) (refl, refl, refl), (by cut (receive 2 1 (make_id 1 2)) refl refl [] refl, tt))) }
   where
     cut : ClosedCut 3 (history_of (make_id 2 1) chain) (receive 2 1 (make_id 1 2))
     cut = record { causal = chain_is_causal.1; counts = 1 ∷ 2 ∷ 1 ∷ []; closed = refl; within = refl }
 
 chain_2_2 : IsStamp (builtin_types 3) (at_first 3 (2 ∷ [])) chain (unary 2 2) (record { level = 1; members = 2 ∷ []; clock = 2 ∷ [] })
-chain_2_2 = record { level = refl; members = refl; clock = (by cut (unary 2 2) refl refl [] refl, tt) }
+chain_2_2 = record { delivered = among chain (unary 2 2) refl; level = refl; members = refl; clock = (by cut (unary 2 2) refl refl [] refl, tt) }
   where
     cut : ClosedCut 3 (history_of (make_id 2 2) chain) (unary 2 2)
     cut = record { causal = chain_is_causal; counts = 1 ∷ 2 ∷ 2 ∷ []; closed = refl; within = refl }
@@ -196,31 +194,31 @@ five_is_causal = ((refl, inl refl), ((refl, inr (inr (send 0 3, (0, omega arith,
 
 -- the five traces, where nothing of trace 3 reaches an event of another trace
 five_2_2 : IsStamp (builtin_types 5) two_and_four five (receive 2 2 (make_id 1 2)) (record { level = 2; members = 0 ∷ 1 ∷ 2 ∷ 3 ∷ []; clock = 1 ∷ 2 ∷ 2 ∷ 0 ∷ [] })
-five_2_2 = record { level = refl; members = refl; clock = (by cut (send 0 1) refl refl (receive 1 1 (make_id 0 1) ∷ send 1 2 ∷ receive 2 2 (make_id 1 2) ∷ []) (refl, refl, (refl, refl, (refl, refl, refl))), (by cut (send 1 2) refl refl (receive 2 2 (make_id 1 2) ∷ []) (refl, refl, refl), (by cut (receive 2 2 (make_id 1 2)) refl refl [] refl, (none cut 3 refl, tt)))) }
+five_2_2 = record { delivered = among five (receive 2 2 (make_id 1 2)) refl; level = refl; members = refl; clock = (by cut (send 0 1) refl refl (receive 1 1 (make_id 0 1) ∷ send 1 2 ∷ receive 2 2 (make_id 1 2) ∷ []) (refl, refl, (refl, refl, (refl, refl, refl))), (by cut (send 1 2) refl refl (receive 2 2 (make_id 1 2) ∷ []) (refl, refl, refl), (by cut (receive 2 2 (make_id 1 2)) refl refl [] refl, (none cut 3 refl, tt)))) }
   where
     cut : ClosedCut 5 (history_of (make_id 2 2) five) (receive 2 2 (make_id 1 2))
     cut = record { causal = five_is_causal.1.1.1.1.1.1.1.1.1; counts = 1 ∷ 2 ∷ 2 ∷ 0 ∷ 0 ∷ []; closed = refl; within = refl }
 
 five_4_1 : IsStamp (builtin_types 5) two_and_four five (receive 4 1 (make_id 2 4)) (record { level = 3; members = 0 ∷ 1 ∷ 2 ∷ 3 ∷ 4 ∷ []; clock = 1 ∷ 2 ∷ 4 ∷ 0 ∷ 1 ∷ [] })
-five_4_1 = record { level = refl; members = refl; clock = (by cut (send 0 1) refl refl (receive 1 1 (make_id 0 1) ∷ send 1 2 ∷ receive 2 2 (make_id 1 2) ∷ unary 2 3 ∷ send 2 4 ∷ receive 4 1 (make_id 2 4) ∷ []) (refl, refl, (refl, refl, (refl, refl, (refl, refl, (refl, refl, (refl, refl, refl)))))), (by cut (send 1 2) refl refl (receive 2 2 (make_id 1 2) ∷ unary 2 3 ∷ send 2 4 ∷ receive 4 1 (make_id 2 4) ∷ []) (refl, refl, (refl, refl, (refl, refl, (refl, refl, refl)))), (by cut (send 2 4) refl refl (receive 4 1 (make_id 2 4) ∷ []) (refl, refl, refl), (none cut 3 refl, (by cut (receive 4 1 (make_id 2 4)) refl refl [] refl, tt))))) }
+five_4_1 = record { delivered = among five (receive 4 1 (make_id 2 4)) refl; level = refl; members = refl; clock = (by cut (send 0 1) refl refl (receive 1 1 (make_id 0 1) ∷ send 1 2 ∷ receive 2 2 (make_id 1 2) ∷ unary 2 3 ∷ send 2 4 ∷ receive 4 1 (make_id 2 4) ∷ []) (refl, refl, (refl, refl, (refl, refl, (refl, refl, (refl, refl, (refl, refl, refl)))))), (by cut (send 1 2) refl refl (receive 2 2 (make_id 1 2) ∷ unary 2 3 ∷ send 2 4 ∷ receive 4 1 (make_id 2 4) ∷ []) (refl, refl, (refl, refl, (refl, refl, (refl, refl, refl)))), (by cut (send 2 4) refl refl (receive 4 1 (make_id 2 4) ∷ []) (refl, refl, refl), (none cut 3 refl, (by cut (receive 4 1 (make_id 2 4)) refl refl [] refl, tt))))) }
   where
     cut : ClosedCut 5 (history_of (make_id 4 1) five) (receive 4 1 (make_id 2 4))
     cut = record { causal = five_is_causal.1.1.1.1.1.1; counts = 1 ∷ 2 ∷ 4 ∷ 0 ∷ 1 ∷ []; closed = refl; within = refl }
 
 five_0_2 : IsStamp (builtin_types 5) two_and_four five (receive 0 2 (make_id 4 3)) (record { level = 3; members = 0 ∷ 1 ∷ 2 ∷ 3 ∷ 4 ∷ []; clock = 2 ∷ 2 ∷ 4 ∷ 0 ∷ 3 ∷ [] })
-five_0_2 = record { level = refl; members = refl; clock = (by cut (receive 0 2 (make_id 4 3)) refl refl [] refl, (by cut (send 1 2) refl refl (receive 2 2 (make_id 1 2) ∷ unary 2 3 ∷ send 2 4 ∷ receive 4 1 (make_id 2 4) ∷ unary 4 2 ∷ send 4 3 ∷ receive 0 2 (make_id 4 3) ∷ []) (refl, refl, (refl, refl, (refl, refl, (refl, refl, (refl, refl, (refl, refl, (refl, refl, refl))))))), (by cut (send 2 4) refl refl (receive 4 1 (make_id 2 4) ∷ unary 4 2 ∷ send 4 3 ∷ receive 0 2 (make_id 4 3) ∷ []) (refl, refl, (refl, refl, (refl, refl, (refl, refl, refl)))), (none cut 3 refl, (by cut (send 4 3) refl refl (receive 0 2 (make_id 4 3) ∷ []) (refl, refl, refl), tt))))) }
+five_0_2 = record { delivered = among five (receive 0 2 (make_id 4 3)) refl; level = refl; members = refl; clock = (by cut (receive 0 2 (make_id 4 3)) refl refl [] refl, (by cut (send 1 2) refl refl (receive 2 2 (make_id 1 2) ∷ unary 2 3 ∷ send 2 4 ∷ receive 4 1 (make_id 2 4) ∷ unary 4 2 ∷ send 4 3 ∷ receive 0 2 (make_id 4 3) ∷ []) (refl, refl, (refl, refl, (refl, refl, (refl, refl, (refl, refl, (refl, refl, (refl, refl, refl))))))), (by cut (send 2 4) refl refl (receive 4 1 (make_id 2 4) ∷ unary 4 2 ∷ send 4 3 ∷ receive 0 2 (make_id 4 3) ∷ []) (refl, refl, (refl, refl, (refl, refl, (refl, refl, refl)))), (none cut 3 refl, (by cut (send 4 3) refl refl (receive 0 2 (make_id 4 3) ∷ []) (refl, refl, refl), tt))))) }
   where
     cut : ClosedCut 5 (history_of (make_id 0 2) five) (receive 0 2 (make_id 4 3))
     cut = record { causal = five_is_causal.1.1.1; counts = 2 ∷ 2 ∷ 4 ∷ 0 ∷ 3 ∷ []; closed = refl; within = refl }
 
 five_2_5 : IsStamp (builtin_types 5) two_and_four five (receive 2 5 (make_id 0 3)) (record { level = 2; members = 0 ∷ 1 ∷ 2 ∷ 3 ∷ []; clock = 3 ∷ 2 ∷ 5 ∷ 0 ∷ [] })
-five_2_5 = record { level = refl; members = refl; clock = (by cut (send 0 3) refl refl (receive 2 5 (make_id 0 3) ∷ []) (refl, refl, refl), (by cut (send 1 2) refl refl (receive 2 2 (make_id 1 2) ∷ unary 2 3 ∷ send 2 4 ∷ receive 2 5 (make_id 0 3) ∷ []) (refl, refl, (refl, refl, (refl, refl, (refl, refl, refl)))), (by cut (receive 2 5 (make_id 0 3)) refl refl [] refl, (none cut 3 refl, tt)))) }
+five_2_5 = record { delivered = among five (receive 2 5 (make_id 0 3)) refl; level = refl; members = refl; clock = (by cut (send 0 3) refl refl (receive 2 5 (make_id 0 3) ∷ []) (refl, refl, refl), (by cut (send 1 2) refl refl (receive 2 2 (make_id 1 2) ∷ unary 2 3 ∷ send 2 4 ∷ receive 2 5 (make_id 0 3) ∷ []) (refl, refl, (refl, refl, (refl, refl, (refl, refl, refl)))), (by cut (receive 2 5 (make_id 0 3)) refl refl [] refl, (none cut 3 refl, tt)))) }
   where
     cut : ClosedCut 5 (history_of (make_id 2 5) five) (receive 2 5 (make_id 0 3))
     cut = record { causal = five_is_causal.1; counts = 3 ∷ 2 ∷ 5 ∷ 0 ∷ 3 ∷ []; closed = refl; within = refl }
 
 five_2_6 : IsStamp (builtin_types 5) two_and_four five (unary 2 6) (record { level = 1; members = 2 ∷ 3 ∷ []; clock = 6 ∷ 0 ∷ [] })
-five_2_6 = record { level = refl; members = refl; clock = (by cut (unary 2 6) refl refl [] refl, (none cut 3 refl, tt)) }
+five_2_6 = record { delivered = among five (unary 2 6) refl; level = refl; members = refl; clock = (by cut (unary 2 6) refl refl [] refl, (none cut 3 refl, tt)) }
   where
     cut : ClosedCut 5 (history_of (make_id 2 6) five) (unary 2 6)
     cut = record { causal = five_is_causal; counts = 3 ∷ 2 ∷ 6 ∷ 0 ∷ 3 ∷ []; closed = refl; within = refl }
@@ -230,13 +228,13 @@ own_is_causal = ((refl, inr (inr (send 1 2, (0, omega arith, refl), fits 3 1 3 1
 
 -- clusters of one trace, and a message of a trace to itself
 own_1_1 : IsStamp (builtin_types 3) (at_first 3 (1 ∷ [])) own (receive 1 1 (make_id 0 1)) (record { level = 2; members = 0 ∷ 1 ∷ 2 ∷ []; clock = 1 ∷ 1 ∷ 0 ∷ [] })
-own_1_1 = record { level = refl; members = refl; clock = (by cut (send 0 1) refl refl (receive 1 1 (make_id 0 1) ∷ []) (refl, refl, refl), (by cut (receive 1 1 (make_id 0 1)) refl refl [] refl, (none cut 2 refl, tt))) }
+own_1_1 = record { delivered = among own (receive 1 1 (make_id 0 1)) refl; level = refl; members = refl; clock = (by cut (send 0 1) refl refl (receive 1 1 (make_id 0 1) ∷ []) (refl, refl, refl), (by cut (receive 1 1 (make_id 0 1)) refl refl [] refl, (none cut 2 refl, tt))) }
   where
     cut : ClosedCut 3 (history_of (make_id 1 1) own) (receive 1 1 (make_id 0 1))
     cut = record { causal = own_is_causal.1.1; counts = 1 ∷ 1 ∷ 0 ∷ []; closed = refl; within = refl }
 
 own_1_3 : IsStamp (builtin_types 3) (at_first 3 (1 ∷ [])) own (receive 1 3 (make_id 1 2)) (record { level = 1; members = 1 ∷ []; clock = 3 ∷ [] })
-own_1_3 = record { level = refl; members = refl; clock = (by cut (receive 1 3 (make_id 1 2)) refl refl [] refl, tt) }
+own_1_3 = record { delivered = among own (receive 1 3 (make_id 1 2)) refl; level = refl; members = refl; clock = (by cut (receive 1 3 (make_id 1 2)) refl refl [] refl, tt) }
   where
     cut : ClosedCut 3 (history_of (make_id 1 3) own) (receive 1 3 (make_id 1 2))
     cut = record { causal = own_is_causal; counts = 1 ∷ 3 ∷ 0 ∷ []; closed = refl; within = refl }
@@ -246,19 +244,19 @@ twice_is_causal = ((refl, inl refl), ((refl, inr (inr (send 0 1, (1, omega arith
 
 -- clusters that merge at the second communication between them
 twice_1_1 : IsStamp (builtin_types 3) (at_second 3 (2 ∷ [])) twice (receive 1 1 (make_id 0 1)) (record { level = 2; members = 0 ∷ 1 ∷ 2 ∷ []; clock = 1 ∷ 1 ∷ 0 ∷ [] })
-twice_1_1 = record { level = refl; members = refl; clock = (by cut (send 0 1) refl refl (receive 1 1 (make_id 0 1) ∷ []) (refl, refl, refl), (by cut (receive 1 1 (make_id 0 1)) refl refl [] refl, (none cut 2 refl, tt))) }
+twice_1_1 = record { delivered = among twice (receive 1 1 (make_id 0 1)) refl; level = refl; members = refl; clock = (by cut (send 0 1) refl refl (receive 1 1 (make_id 0 1) ∷ []) (refl, refl, refl), (by cut (receive 1 1 (make_id 0 1)) refl refl [] refl, (none cut 2 refl, tt))) }
   where
     cut : ClosedCut 3 (history_of (make_id 1 1) twice) (receive 1 1 (make_id 0 1))
     cut = record { causal = twice_is_causal.1.1; counts = 1 ∷ 1 ∷ 0 ∷ []; closed = refl; within = refl }
 
 twice_1_2 : IsStamp (builtin_types 3) (at_second 3 (2 ∷ [])) twice (receive 1 2 (make_id 0 1)) (record { level = 1; members = 0 ∷ 1 ∷ []; clock = 1 ∷ 2 ∷ [] })
-twice_1_2 = record { level = refl; members = refl; clock = (by cut (send 0 1) refl refl (receive 1 2 (make_id 0 1) ∷ []) (refl, refl, refl), (by cut (receive 1 2 (make_id 0 1)) refl refl [] refl, tt)) }
+twice_1_2 = record { delivered = among twice (receive 1 2 (make_id 0 1)) refl; level = refl; members = refl; clock = (by cut (send 0 1) refl refl (receive 1 2 (make_id 0 1) ∷ []) (refl, refl, refl), (by cut (receive 1 2 (make_id 0 1)) refl refl [] refl, tt)) }
   where
     cut : ClosedCut 3 (history_of (make_id 1 2) twice) (receive 1 2 (make_id 0 1))
     cut = record { causal = twice_is_causal.1; counts = 1 ∷ 2 ∷ 0 ∷ []; closed = refl; within = refl }
 
 twice_1_3 : IsStamp (builtin_types 3) (at_second 3 (2 ∷ [])) twice (unary 1 3) (record { level = 1; members = 0 ∷ 1 ∷ []; clock = 1 ∷ 3 ∷ [] })
-twice_1_3 = record { level = refl; members = refl; clock = (by cut (send 0 1) refl refl (receive 1 2 (make_id 0 1) ∷ unary 1 3 ∷ []) (refl, refl, (refl, refl, refl)), (by cut (unary 1 3) refl refl [] refl, tt)) }
+twice_1_3 = record { delivered = among twice (unary 1 3) refl; level = refl; members = refl; clock = (by cut (send 0 1) refl refl (receive 1 2 (make_id 0 1) ∷ unary 1 3 ∷ []) (refl, refl, (refl, refl, refl)), (by cut (unary 1 3) refl refl [] refl, tt)) }
   where
     cut : ClosedCut 3 (history_of (make_id 1 3) twice) (unary 1 3)
     cut = record { causal = twice_is_causal; counts = 1 ∷ 3 ∷ 0 ∷ []; closed = refl; within = refl }

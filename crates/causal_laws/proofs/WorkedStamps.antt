@@ -2,10 +2,10 @@
 use Rattle.std.proofs.Common.{◌≡◌, ℕ, List, [], ◌∷◌, refl, None, Some, true, false}
 use Rattle.causal_base.specs.declared.event.Event.{Event}
 use Rattle.causal_base.specs.declared.event_id.EventId.{EventId}
-use Rattle.causal_base.specs.History.{Delivery, alone, together}
+use Rattle.causal_base.specs.History.{EventBlock, alone, together}
 use Rattle.causal_base.specs.Clusters.{Clustering, partition, shared_level, merges_down_to, bound_of}
 use Rattle.causal_base.specs.Stamps.{level_of, members_of}
-use Rattle.causal_base.proofs.Ids.{make_id}
+use Rattle.causal_base.proofs.CallerLemmas.{make_id}
 
 -- events of the built-in types, by their trace and number
 abbrev pub unary : ℕ → ℕ → Event
@@ -32,7 +32,7 @@ abbrev pub at_second : ℕ → List ℕ → Clustering
 at_second traces sizes = record { traces = traces; sizes = sizes; after = 2 }
 
 -- three traces, each of which hears of the one before it; clusters of at most two
-abbrev pub chain : List Delivery
+abbrev pub chain : List EventBlock
 chain = alone (unary 2 2) ∷ alone (receive 2 1 (make_id 1 2)) ∷ alone (send 1 2) ∷ alone (receive 1 1 (make_id 0 1)) ∷ alone (send 0 1) ∷ []
 
 chain_levels : (level_of (at_first 3 (2 ∷ [])) chain (make_id 0 1) ≡ 1) × (level_of (at_first 3 (2 ∷ [])) chain (make_id 1 1) ≡ 1) × (level_of (at_first 3 (2 ∷ [])) chain (make_id 2 1) ≡ 2) × (level_of (at_first 3 (2 ∷ [])) chain (make_id 2 2) ≡ 1)
@@ -42,7 +42,7 @@ chain_members : (members_of (at_first 3 (2 ∷ [])) chain (make_id 0 1) ≡ 0 �
 chain_members = (refl, refl, refl, refl)
 
 -- five traces, clusters of at most two and of at most four
-abbrev pub five : List Delivery
+abbrev pub five : List EventBlock
 five = alone (unary 2 6) ∷ alone (receive 2 5 (make_id 0 3)) ∷ alone (send 0 3) ∷ alone (receive 0 2 (make_id 4 3)) ∷ alone (send 4 3)
     ∷ alone (unary 4 2) ∷ alone (receive 4 1 (make_id 2 4)) ∷ alone (send 2 4) ∷ alone (unary 2 3) ∷ alone (receive 2 2 (make_id 1 2))
     ∷ alone (send 1 2) ∷ alone (receive 3 1 (make_id 2 1)) ∷ alone (send 2 1) ∷ alone (receive 1 1 (make_id 0 1)) ∷ alone (send 0 1) ∷ []
@@ -57,7 +57,7 @@ five_members : (members_of two_and_four five (make_id 2 2) ≡ 0 ∷ 1 ∷ 2 ∷
 five_members = (refl, refl, refl, refl, refl)
 
 -- Clusters of one trace merge with none, and an event that names one of its own trace has level 1.
-abbrev pub own : List Delivery
+abbrev pub own : List EventBlock
 own = alone (receive 1 3 (make_id 1 2)) ∷ alone (send 1 2) ∷ alone (receive 1 1 (make_id 0 1)) ∷ alone (send 0 1) ∷ []
 
 own_levels : (level_of (at_first 3 (1 ∷ [])) own (make_id 1 1) ≡ 2) × (level_of (at_first 3 (1 ∷ [])) own (make_id 1 3) ≡ 1)
@@ -67,7 +67,7 @@ own_members : (members_of (at_first 3 (1 ∷ [])) own (make_id 1 1) ≡ 0 ∷ 1 
 own_members = (refl, refl)
 
 -- clusters that merge at the second communication between them
-abbrev pub twice : List Delivery
+abbrev pub twice : List EventBlock
 twice = alone (unary 1 3) ∷ alone (receive 1 2 (make_id 0 1)) ∷ alone (receive 1 1 (make_id 0 1)) ∷ alone (send 0 1) ∷ []
 
 twice_levels : (level_of (at_second 3 (2 ∷ [])) twice (make_id 1 1) ≡ 2) × (level_of (at_second 3 (2 ∷ [])) twice (make_id 1 2) ≡ 1) × (level_of (at_second 3 (2 ∷ [])) twice (make_id 1 3) ≡ 1)
@@ -77,14 +77,14 @@ twice_members : (members_of (at_second 3 (2 ∷ [])) twice (make_id 1 1) ≡ 0 �
 twice_members = (refl, refl, refl)
 
 -- a pair, and a watch of one of the partners
-abbrev watched : List Delivery
+abbrev watched : List EventBlock
 watched = alone (receive 2 1 (make_id 0 1)) ∷ together (receive 0 1 (make_id 1 1)) (receive 1 1 (make_id 0 1)) ∷ []
 
 watched_members : (members_of (at_first 3 (8 ∷ 32 ∷ [])) watched (make_id 0 1) ≡ 0 ∷ 1 ∷ []) × (members_of (at_first 3 (8 ∷ 32 ∷ [])) watched (make_id 1 1) ≡ 0 ∷ 1 ∷ []) × (members_of (at_first 3 (8 ∷ 32 ∷ [])) watched (make_id 2 1) ≡ 0 ∷ 1 ∷ 2 ∷ [])
 watched_members = (refl, refl, refl)
 
 -- two traces that watch each other, in clusters of up to eight, and of one
-abbrev watching : List Delivery
+abbrev watching : List EventBlock
 watching = alone (watch 0 2 (make_id 1 2)) ∷ alone (unary 1 2) ∷ alone (watch 1 1 (make_id 0 1)) ∷ alone (unary 0 1) ∷ []
 
 watching_levels : (level_of (at_first 3 (8 ∷ 32 ∷ [])) watching (make_id 0 2) ≡ 1) × (level_of (at_first 3 (1 ∷ [])) watching (make_id 1 1) ≡ 2) × (level_of (at_first 3 (1 ∷ [])) watching (make_id 0 2) ≡ 2)

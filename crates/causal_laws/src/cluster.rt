@@ -10,8 +10,10 @@ ghost use Rattle.causal_base.specs.Stamps.{history_of};
 pub fn clusters_part_traces()
     ensures { (clustering : Clustering) (so_far : List (ℕ × ℕ)) (level x y z : ℕ)
         → (partition clustering so_far level x x ≡ true)
-        × (partition clustering so_far level x y ≡ true → partition clustering so_far level y x ≡ true)
-        × (partition clustering so_far level x y ≡ true → partition clustering so_far level y z ≡ true
+        × (partition clustering so_far level x y ≡ true
+        → partition clustering so_far level y x ≡ true)
+        × (partition clustering so_far level x y ≡ true
+        → partition clustering so_far level y z ≡ true
         → partition clustering so_far level x z ≡ true) }
 {}
 
@@ -31,16 +33,22 @@ pub fn clusters_nest()
 
 /// Above the levels that have a size, one cluster has all traces.
 pub fn top_has_all()
-    ensures { (clustering : Clustering) (so_far : List (ℕ × ℕ)) (level x y : ℕ) → levels_of clustering < level
+    ensures { (clustering : Clustering) (so_far : List (ℕ × ℕ)) (level x y : ℕ)
+        → levels_of clustering < level
         → partition clustering so_far level x y ≡ true }
 {}
 
-/// What a trace shares a cluster with right after one of its events, it shares it with after each later one.
+/// What a trace shares a cluster with right after one of its events, it shares it with after each
+/// later one.
 pub fn cluster_stays()
-    ensures { (types : TypeTable) (clustering : Clustering) (journal : List Entry) → IsLegal types journal
-        → (e later : Event) → Contains (delivered_by journal) e → Contains (delivered_by journal) later
+    ensures { (types : TypeTable) (clustering : Clustering) (journal : List Entry)
+        → IsLegal types journal
+        → (e later : Event) → Contains (delivered_by journal) e
+        → Contains (delivered_by journal) later
         → e.id.trace ≡ later.id.trace → e.id.number ≤ later.id.number
         → (level x : ℕ)
-        → partition_after clustering (history_of e.id (deliveries_by journal)) level e.id.trace x ≡ true
-        → partition_after clustering (history_of later.id (deliveries_by journal)) level e.id.trace x ≡ true }
+        → partition_after clustering (history_of e.id (deliveries_by journal)) level e.id.trace x
+        ≡ true
+        → partition_after clustering (history_of later.id (deliveries_by journal)) level e.id.trace
+        x ≡ true }
 {}

@@ -12,28 +12,39 @@ ghost use Rattle.causal_base.specs.Journal.{IsLegal, delivered_by};
 /// Partners reach each other.
 pub fn partners_reach_each_other()
     ensures { (types : TypeTable) (journal : List Entry)
-        → (a b : Event) → Contains (delivered_by journal) a → Contains (delivered_by journal) b → Pairs types a b
+        → (a b : Event) → Contains (delivered_by journal) a → Contains (delivered_by journal) b
+        → Pairs types a b
         → Reaches types (delivered_by journal) a b × Reaches types (delivered_by journal) b a }
 {}
 
-/// Partners have the same past: what reaches one reaches the other, and what is before one is before the other.
+/// Partners have the same past: what reaches one reaches the other, and what is before one is
+/// before the other.
 pub fn partners_share_past()
     ensures reach { (types : TypeTable) (journal : List Entry)
-        → (a b : Event) → Contains (delivered_by journal) a → Contains (delivered_by journal) b → Pairs types a b
-        → (x : Event) → (Reaches types (delivered_by journal) x a) ↔ (Reaches types (delivered_by journal) x b) }
+        → (a b : Event) → Contains (delivered_by journal) a → Contains (delivered_by journal) b
+        → Pairs types a b
+        → (x : Event) → (Reaches types (delivered_by journal) x a)
+        ↔ (Reaches types (delivered_by journal) x b) }
     ensures before { (types : TypeTable) (journal : List Entry) → IsLegal types journal
-        → (a b : Event) → Contains (delivered_by journal) a → Contains (delivered_by journal) b → Pairs types a b
-        → (x : Event) → (IsBefore types (delivered_by journal) x a) ↔ (IsBefore types (delivered_by journal) x b) }
+        → (a b : Event) → Contains (delivered_by journal) a → Contains (delivered_by journal) b
+        → Pairs types a b
+        → (x : Event) → (IsBefore types (delivered_by journal) x a)
+        ↔ (IsBefore types (delivered_by journal) x b) }
 {}
 
-/// Partners have the same future: one reaches what the other reaches, and is before what the other is before.
+/// Partners have the same future: one reaches what the other reaches, and is before what the other
+/// is before.
 pub fn partners_share_future()
     ensures reach { (types : TypeTable) (journal : List Entry)
-        → (a b : Event) → Contains (delivered_by journal) a → Contains (delivered_by journal) b → Pairs types a b
-        → (x : Event) → (Reaches types (delivered_by journal) a x) ↔ (Reaches types (delivered_by journal) b x) }
+        → (a b : Event) → Contains (delivered_by journal) a → Contains (delivered_by journal) b
+        → Pairs types a b
+        → (x : Event) → (Reaches types (delivered_by journal) a x)
+        ↔ (Reaches types (delivered_by journal) b x) }
     ensures before { (types : TypeTable) (journal : List Entry) → IsLegal types journal
-        → (a b : Event) → Contains (delivered_by journal) a → Contains (delivered_by journal) b → Pairs types a b
-        → (x : Event) → (IsBefore types (delivered_by journal) a x) ↔ (IsBefore types (delivered_by journal) b x) }
+        → (a b : Event) → Contains (delivered_by journal) a → Contains (delivered_by journal) b
+        → Pairs types a b
+        → (x : Event) → (IsBefore types (delivered_by journal) a x)
+        ↔ (IsBefore types (delivered_by journal) b x) }
 {}
 
 /// A pair entry of a legal journal is of two partners, the lower trace first.
@@ -41,7 +52,8 @@ pub fn pair_is_of_partners()
     ensures { (types : TypeTable) (journal : List Entry) → IsLegal types journal
         → (first second : EventId) → Contains journal (Pair first second)
         → (a : Event) × (b : Event) × (a.id ≡ first) × (b.id ≡ second)
-        × Contains (delivered_by journal) a × Contains (delivered_by journal) b × Pairs types a b × (first.trace < second.trace) }
+        × Contains (delivered_by journal) a × Contains (delivered_by journal) b × Pairs types a b
+        × (first.trace < second.trace) }
 {}
 
 /// A delivered sync event stands in one block with a partner, the lower trace first.

@@ -9,7 +9,8 @@ ghost use Rattle.causal_base.specs.Journal.{IsLegal, delivered_by};
 pub fn walk_stays_in_past()
     ensures { (types : TypeTable) (journal more : List Entry) → IsLegal types (journal ++ more)
         → (e : Event) → Contains (delivered_by journal) e
-        → (a : Event) (through : List Event) → Walk types (delivered_by (journal ++ more)) a through e
+        → (a : Event) (through : List Event)
+        → Walk types (delivered_by (journal ++ more)) a through e
         → Contains (delivered_by journal) a × Walk types (delivered_by journal) a through e }
 {}
 

@@ -4,7 +4,7 @@ ghost use Rattle.causal_base.specs.declared.event.Event.{Event};
 ghost use Rattle.causal_base.specs.Types.{TypeTable};
 ghost use Rattle.causal_base.specs.Journal.{IsLegal, delivered_by};
 
-/// Each beginning of a legal journal is a legal journal.
+/// Each prefix of a legal journal is a legal journal.
 pub fn legal_prefix()
     ensures { (types : TypeTable) (journal more : List Entry) → IsLegal types (journal ++ more)
         → IsLegal types journal }

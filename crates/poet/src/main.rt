@@ -1,5 +1,6 @@
-//! poet, a partial-order event tracer: the program. It hands the words after its own name, the folder that it
-//! runs in and standard output to the top call, and ends with the status that this answers.
+//! poet, a partial-order event tracer: the program. It hands the words after its own name, the
+//! folder that it runs in and standard output to the top call, and ends with the status that this
+//! answers.
 #![tactic(auto)]
 
 use poet_io::{HostFolder, HostOut};

@@ -1,3 +1,5 @@
 pub mod BytesSoFar
+pub mod Writers
 pub mod StoredFiles
 pub mod GivenBack
+pub mod CallerLemmas

@@ -1,4 +1,4 @@
--- A counter of 64 bits that stands still at its last value.
+-- A counter of 64 bits that saturates.
 use Rattle.std.specs.Prelude.{ℕ, ◌+◌, ◌-◌, ◌^◌, min}
 
 -- the value after one more

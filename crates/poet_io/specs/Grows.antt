@@ -6,6 +6,6 @@ use Rattle.std.specs.Option.{option_map}
 abbrev pub Grows : (before after : Option (List ℕ)) → List ℕ → Type 0
 Grows before after more = after ≡ option_map (λ taken. taken ++ more) before
 
--- what was taken grew by some front of these bytes, where it is told
-abbrev pub GrowsByFront : (before after : Option (List ℕ)) → List ℕ → Type 0
-GrowsByFront before after bytes = (n : ℕ) × (n ≤ length bytes) × Grows before after (take n bytes)
+-- what was taken grew by some prefix of these bytes, where it is told
+abbrev pub GrowsByPrefix : (before after : Option (List ℕ)) → List ℕ → Type 0
+GrowsByPrefix before after bytes = (n : ℕ) × (n ≤ length bytes) × Grows before after (take n bytes)

@@ -1,6 +1,10 @@
 pub mod Counter
 pub mod Faults
 pub mod FilesState
+pub mod GivenBack
+pub mod SinkState
+pub mod SourceState
+pub mod Writes
 pub mod Folder
 pub mod Grows
 pub mod Chains
@@ -8,7 +12,6 @@ pub mod MemFile
 pub mod MemFolder
 pub mod MemSink
 pub mod MemSource
-pub mod OpenError
 pub mod ReadAllError
 pub mod Takes
 pub mod Uses

@@ -1,9 +1,9 @@
-ghost use Rattle.std.specs.Prelude.{◌≡◌, ◌<◌, ◌↔◌, ℕ, List, Option, None, IfOk, IfSome, IsSome, IsSomeAnd, IsErrOf, MatchResult};
-ghost use Rattle.poet_io.specs.OpenError.{CountsOpenError};
+ghost use Rattle.std.specs.Prelude.{◌≡◌, ◌<◌, ◌↔◌, IfOk, IfErr, IfSome, IsSome, OnOk};
 ghost use Rattle.poet_io.specs.Faults.{IsRaised};
-ghost use Rattle.poet_io.specs.Folder.{Folder, IsOpenedAt};
-ghost use Rattle.poet_io.specs.Uses.{NotesOpenError, NotesClose};
-ghost use Rattle.poet_io.specs.declared.uses.Use.{Use};
+ghost use Rattle.poet_io.specs.FilesState.{FilesState};
+ghost use Rattle.poet_io.specs.Folder.{IsOpenedAt};
+ghost use Rattle.poet_io.specs.GivenBack.{IsNotOpened};
+ghost use Rattle.poet_io.specs.Uses.{NotesClose};
 
 use crate::Source;
 use std::alloc::Global;
@@ -28,43 +28,35 @@ pub trait Files {
     /// An open file.
     type In: Source + Send;
 
-    /// How often it has failed, and the files that were given back have; the count never falls.
-    ghost faults: { Self → ℕ };
+    /// What is told of it. The count of its faults, and of the files that were given back, never
+    /// falls.
+    ghost state: { Self → FilesState };
 
-    /// The bytes that stand under each name, or `None` where it doesn't tell.
-    ghost folder: { Self → Option Folder };
-
-    /// What became of its files so far, the oldest first, or `None` where it doesn't tell.
-    ghost uses: { Self → Option (List Use) };
-
-    /// It tells both or neither.
-    ghost tells_both: { (files : Self) → IsSome (folder files) ↔ IsSome (uses files) };
+    /// It tells what stands in it and what became of its files, or neither.
+    ghost tells_both: { (files : Self) →
+        IsSome (state files).folder ↔ IsSome (state files).uses };
 
     /// Opens a file, to be read from its start. `Absent` is told only by a folder that tells what
     /// stands in it.
     fn open(&mut self, alloc: Global, name: &str) -> Result<Self::In, OpenError>
-        ensures opened { IfOk result (λ source. IfSome (folder self.old) (λ files.
-            IsOpenedAt files name.now (Self.In.name source) (Self.In.left source))) }
-        ensures fresh { IfOk result (λ source. Self.In.faults source ≡ 0) }
-        ensures absent { IsErrOf result OpenError.Absent →
-            IsSomeAnd (folder self.old) (λ files. files name.now ≡ None) }
-        ensures same_files { folder self.new ≡ folder self.old }
-
-        ensures uses { MatchResult result
-            (λ _. uses self.new ≡ uses self.old)
-            (λ e. NotesOpenError e name.now (uses self.old) (uses self.new)) }
-        ensures faults { MatchResult result
-            (λ _. faults self.new ≡ faults self.old)
-            (λ e. CountsOpenError e (faults self.old) (faults self.new)) };
+        ensures opened { IfOk result (λ source. IfSome (state self.old).folder (λ folder.
+            IsOpenedAt folder name.now (Self.In.state source))) }
+        ensures fresh { IfOk result (λ source. (Self.In.state source).faults ≡ 0) }
+        ensures same { OnOk result (state self.new ≡ state self.old) }
+        ensures refused { IfErr result (λ error.
+            IsNotOpened error name.now (state self.old) (state self.new)) };
 
     /// Gives back a file that was opened here. What the file failed at counts for the folder from
     /// then on.
     fn close(&mut self, source: Self::In)
-        requires name_told { IsSome (folder self.old) → IsSome (Self.In.name source) }
-        requires left_told { IsSome (folder self.old) → IsSome (Self.In.left source) }
+        requires name_told { IsSome (state self.old).folder → IsSome (Self.In.state source).name }
+        requires left_told { IsSome (state self.old).folder → IsSome (Self.In.state source).left }
 
-        ensures no_fault { Self.In.faults source ≡ 0 → faults self.new ≡ faults self.old }
-        ensures fault { 0 < Self.In.faults source → IsRaised (faults self.old) (faults self.new) }
-        ensures same_files { folder self.new ≡ folder self.old }
-        ensures uses { NotesClose (Self.In.name source) (Self.In.left source) (Self.In.faults source) (uses self.old) (uses self.new) };
+        ensures no_fault { (Self.In.state source).faults ≡ 0
+            → (state self.new).faults ≡ (state self.old).faults }
+        ensures fault { 0 < (Self.In.state source).faults
+            → IsRaised (state self.old).faults (state self.new).faults }
+        ensures same_folder { (state self.new).folder ≡ (state self.old).folder }
+        ensures noted { NotesClose (Self.In.state source)
+            (state self.old).uses (state self.new).uses };
 }

@@ -36,11 +36,7 @@ impl<F> HostFile<F> {
 impl<F: Read> Source for HostFile<F> {
     ghost use Rattle.std.specs.Prelude.{None};
 
-    ghost faults = { λ file. file };
-
-    ghost left = { λ _. None };
-
-    ghost name = { λ _. None };
+    ghost state = { λ file. record { faults = file; left = None; name = None } };
 
     fn read(&mut self, buf: &mut [u8]) -> Result<usize, Failed> {
         match self.file.read(buf) {

@@ -38,11 +38,7 @@ where
 
     type In = HostFile<R::File>;
 
-    ghost faults = { λ folder. folder };
-
-    ghost folder = { λ _. None };
-
-    ghost uses = { λ _. None };
+    ghost state = { λ folder. record { faults = folder; folder = None; uses = None } };
 
     ghost tells_both = { λ _. ((λ told. told), (λ told. told)) };
 

@@ -31,9 +31,7 @@ impl<P> HostOut<P> {
 impl<P: Print> Sink for HostOut<P> {
     ghost use Rattle.std.specs.Prelude.{None};
 
-    ghost faults = { λ out. out };
-
-    ghost taken = { λ _. None };
+    ghost state = { λ out. record { faults = out; taken = None } };
 
     fn write(&mut self, piece: &[u8]) -> Result<usize, Failed> {
         match self.printer.write_some(piece) {

@@ -7,7 +7,8 @@ use crate::uses::{Room, Uses};
 use crate::{Bytes, Failed, MemSource, Source, Use};
 use std::marker::Model;
 
-/// An open file of a [`MemFolder`](crate::MemFolder), with the room for what the folder notes when it is given back.
+/// An open file of a [`MemFolder`](crate::MemFolder), with the room for what the folder notes when
+/// it is given back.
 #[derive(Debug, Drop)]
 pub struct MemFile {
     name: Bytes,
@@ -16,15 +17,15 @@ pub struct MemFile {
 }
 
 impl Model for MemFile {
-    ghost use Rattle.poet_io.specs.MemFile.{FileState};
+    ghost use Rattle.poet_io.specs.MemFile.{MemFileState};
 
-    ghost Value = { FileState };
+    ghost Value = { MemFileState };
 
     ghost view = { λ file. record { name = file.name; source = file.source } };
 }
 
 impl MemFile {
-    ghost use Rattle.poet_io.specs.MemFile.{FileState};
+    ghost use Rattle.poet_io.specs.MemFile.{MemFileState};
 
     pub(crate) fn new(name: Bytes, source: MemSource, room: Room) -> Self
         ensures { result ≡ record { name = name; source = source } }
@@ -41,7 +42,8 @@ impl MemFile {
 
     // Notes what became of it, in its own room.
     pub(crate) fn close_into(self, uses: &mut Uses)
-        ensures { uses.new ≡ Closed self.name self.source.left (nat_lt 0 self.source.faults) ∷ uses.old }
+        ensures { uses.new ≡ Closed self.name self.source.left (nat_lt 0 self.source.faults)
+            ∷ uses.old }
     {
         let failed = self.source.faults() > 0;
         uses.add(
@@ -54,11 +56,11 @@ impl MemFile {
 impl Source for MemFile {
     ghost use Rattle.std.specs.Prelude.{Some};
 
-    ghost faults = { λ file. file.source.faults };
-
-    ghost left = { λ file. Some file.source.left };
-
-    ghost name = { λ file. Some file.name };
+    ghost state = { λ file. record {
+      faults = file.source.faults;
+      left = Some file.source.left;
+      name = Some file.name;
+    } };
 
     /// Gives as many bytes as fit, unless the call's number is among those that fail.
     fn read(&mut self, buf: &mut [u8]) -> Result<usize, Failed>
@@ -67,7 +69,7 @@ impl Source for MemFile {
         ensures fails { IsErr result ↔
             Contains self.old.source.fail_at (counted self.old.source.reads) }
         ensures count { IfOk result (λ n. n ≡ min (length buf.old) (length self.old.source.left)) }
-        ensures front { IfOk result (λ n. take n buf.new ≡ take n self.old.source.left) }
+        ensures prefix { IfOk result (λ n. take n buf.new ≡ take n self.old.source.left) }
         ensures ok { IfOk result (λ n. self.new ≡ record self.old {
           source = record self.old.source {
             left = drop n self.old.source.left;

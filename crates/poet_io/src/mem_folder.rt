@@ -61,9 +61,9 @@ pub struct MemFolder {
 }
 
 impl Model for MemFolder {
-    ghost use Rattle.poet_io.specs.MemFolder.{FolderState};
+    ghost use Rattle.poet_io.specs.MemFolder.{MemFolderState};
 
-    ghost Value = { FolderState };
+    ghost Value = { MemFolderState };
 
     ghost view = { λ folder. record {
       files = folder.files.items;
@@ -116,7 +116,8 @@ impl MemFolder {
 
     /// What became of the last file that was given back or failed to open, if there was one.
     pub fn last_use(&self) -> Option<&Use>
-        ensures some { IfSome result (λ newest. (older : List Use) × (self.now.uses ≡ newest.now ∷ older)) }
+        ensures some { IfSome result (λ newest. (older : List Use)
+            × (self.now.uses ≡ newest.now ∷ older)) }
         ensures none { IfNone result (self.now.uses ≡ []) }
     {
         self.uses.newest()
@@ -165,11 +166,11 @@ impl Files for MemFolder {
 
     type In = MemFile;
 
-    ghost faults = { λ folder. folder.faults };
-
-    ghost folder = { λ folder. Some (bytes_at folder.files) };
-
-    ghost uses = { λ folder. Some (reverse folder.uses) };
+    ghost state = { λ folder. record {
+      faults = folder.faults;
+      folder = Some (bytes_at folder.files);
+      uses = Some (reverse folder.uses);
+    } };
 
     ghost tells_both = { λ _. ((λ _. refl), (λ _. refl)) };
 
@@ -177,7 +178,8 @@ impl Files for MemFolder {
     /// copy of it. Memory is taken for what is noted of the file, at each of these but `Absent`.
     fn open(&mut self, alloc: Global, name: &str) -> Result<MemFile, OpenError>
         ensures failed { IsErrOf result OpenError.Failed → Contains self.old.failing name.now }
-        ensures failing { Contains self.old.failing name.now → IsErrOf result OpenError.Failed ⊎ IsErrOf result OpenError.Oom }
+        ensures failing { Contains self.old.failing name.now → IsErrOf result OpenError.Failed
+            ⊎ IsErrOf result OpenError.Oom }
         ensures absent { IsErrOf result OpenError.Absent → file_at self.old.files name.now ≡ None }
         ensures oom { IsErrOf result OpenError.Oom →
             Contains self.old.failing name.now ⊎ IsSome (file_at self.old.files name.now) }
@@ -207,7 +209,8 @@ impl Files for MemFolder {
     fn close(&mut self, source: MemFile)
         ensures noted { self.new ≡ record self.old {
           faults = cond (nat_lt 0 source.source.faults) (counted self.old.faults) self.old.faults;
-          uses = Closed source.name source.source.left (nat_lt 0 source.source.faults) ∷ self.old.uses;
+          uses = Closed source.name source.source.left (nat_lt 0 source.source.faults)
+              ∷ self.old.uses;
         } }
         ensures fault { 0 < source.source.faults → IsRaised self.old.faults self.new.faults }
     {

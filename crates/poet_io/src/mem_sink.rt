@@ -20,9 +20,9 @@ pub struct MemSink {
 
 impl Model for MemSink {
     ghost use Rattle.std.specs.Prelude.{◌<◌, ◌≤◌, vec_len, vec_capacity};
-    ghost use Rattle.poet_io.specs.MemSink.{SinkState};
+    ghost use Rattle.poet_io.specs.MemSink.{MemSinkState};
 
-    ghost Value = { SinkState };
+    ghost Value = { MemSinkState };
 
     ghost view = { λ sink. record {
       taken = sink.bytes.items;
@@ -79,9 +79,7 @@ impl MemSink {
 impl Sink for MemSink {
     ghost use Rattle.std.specs.Prelude.{Some};
 
-    ghost faults = { λ sink. sink.faults };
-
-    ghost taken = { λ sink. Some sink.taken };
+    ghost state = { λ sink. record { faults = sink.faults; taken = Some sink.taken } };
 
     /// Takes what it may and has room for, unless the call's number is among those that fail or it
     /// is full.

@@ -18,9 +18,9 @@ pub struct MemSource {
 
 impl Model for MemSource {
     ghost use Rattle.std.specs.Prelude.{◌≤◌, length, drop};
-    ghost use Rattle.poet_io.specs.MemSource.{SourceState};
+    ghost use Rattle.poet_io.specs.MemSource.{MemSourceState};
 
-    ghost Value = { SourceState };
+    ghost Value = { MemSourceState };
 
     ghost view = { λ source. record {
       left = drop source.at source.bytes;
@@ -63,10 +63,10 @@ impl MemSource {
     }
 }
 
-// Copies as many bytes as fit into the front of a buffer, and answers how many.
-fn fill_front(buf: &mut [u8], bytes: &[u8]) -> usize
+// Copies as many bytes as fit into a prefix of a buffer, and answers how many.
+fn fill_prefix(buf: &mut [u8], bytes: &[u8]) -> usize
     ensures count { result ≡ min (length buf.old) (length bytes.now) }
-    ensures front { take result buf.new ≡ take result bytes.now }
+    ensures prefix { take result buf.new ≡ take result bytes.now }
 {
     let count = buf.len().min(bytes.len());
     buf[..count].copy_from_slice(&bytes[..count]);
@@ -76,11 +76,11 @@ fn fill_front(buf: &mut [u8], bytes: &[u8]) -> usize
 impl Source for MemSource {
     ghost use Rattle.std.specs.Prelude.{Some, None};
 
-    ghost faults = { λ source. source.faults };
-
-    ghost left = { λ source. Some source.left };
-
-    ghost name = { λ _. None };
+    ghost state = { λ source. record {
+      faults = source.faults;
+      left = Some source.left;
+      name = None;
+    } };
 
     /// Gives as many bytes as fit, unless the call's number is among those that fail.
     fn read(&mut self, buf: &mut [u8]) -> Result<usize, Failed>
@@ -88,7 +88,7 @@ impl Source for MemSource {
 
         ensures fails { IsErr result ↔ Contains self.old.fail_at (counted self.old.reads) }
         ensures count { IfOk result (λ n. n ≡ min (length buf.old) (length self.old.left)) }
-        ensures front { IfOk result (λ n. take n buf.new ≡ take n self.old.left) }
+        ensures prefix { IfOk result (λ n. take n buf.new ≡ take n self.old.left) }
         ensures ok { IfOk result (λ n. self.new ≡ record self.old {
           left = drop n self.old.left;
           reads = counted self.old.reads;
@@ -104,7 +104,7 @@ impl Source for MemSource {
             self.faults = self.faults.saturating_add(1);
             return Err(Failed);
         }
-        let count = fill_front(buf, &self.bytes.as_slice()[self.at..]);
+        let count = fill_prefix(buf, &self.bytes.as_slice()[self.at..]);
         self.at += count;
         Ok(count)
     }

@@ -9,9 +9,7 @@ pub struct NeverSink;
 impl Sink for NeverSink {
     ghost use Rattle.std.specs.Prelude.{None};
 
-    ghost faults = { λ _. 0 };
-
-    ghost taken = { λ _. None };
+    ghost state = { λ _. record { faults = 0; taken = None } };
 
     /// Takes all of the piece.
     fn write(&mut self, piece: &[u8]) -> Result<usize, Failed>

@@ -26,17 +26,17 @@ const BUFFER: usize = 4096;
 /// Reads all that is left of a source, which may be at most `limit` bytes. It takes memory for what
 /// there is, and none for the limit.
 pub fn read_all<S: Source>(alloc: Global, source: &mut S, limit: u64) -> Result<Bytes, ReadAllError>
-    ensures whole { IfOk result (λ bytes. IfSome (S.left source.old) (λ left. bytes ≡ left)) }
+    ensures whole { IfOk result (λ bytes. IfSome (S.state source.old).left (λ left. bytes ≡ left)) }
     ensures within { IfOk result (λ bytes. length bytes ≤ limit) }
-    ensures at_end { OnOk result (IfSome (S.left source.new) (λ left. left ≡ [])) }
+    ensures at_end { OnOk result (IfSome (S.state source.new).left (λ left. left ≡ [])) }
     ensures too_long { IsErrOf result ReadAllError.TooLong →
-        IfSome (S.left source.old) (λ left. limit < length left) }
+        IfSome (S.state source.old).left (λ left. limit < length left) }
 
-    ensures rest { LeavesRest (S.left source.old) (S.left source.new) }
-    ensures same_name { S.name source.new ≡ S.name source.old }
+    ensures rest { LeavesRest (S.state source.old).left (S.state source.new).left }
+    ensures same_name { (S.state source.new).name ≡ (S.state source.old).name }
     ensures faults { MatchResult result
-        (λ _. S.faults source.new ≡ S.faults source.old)
-        (λ e. CountsReadAllError e (S.faults source.old) (S.faults source.new)) }
+        (λ _. (S.state source.new).faults ≡ (S.state source.old).faults)
+        (λ e. CountsReadAllError e (S.state source.old).faults (S.state source.new).faults) }
 {
     let mut bytes = Vec::new(alloc);
     let mut buffer = [0u8; BUFFER];

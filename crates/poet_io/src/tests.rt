@@ -78,7 +78,7 @@ fn a_source_is_read_whole_or_refused(rt: HostRuntime) -> Result<(), Fail> {
 }
 
 #[test]
-fn a_sink_takes_all_or_a_front(rt: HostRuntime) -> Result<(), Fail> {
+fn a_sink_takes_all_or_a_prefix(rt: HostRuntime) -> Result<(), Fail> {
     let alloc = rt.alloc();
     let cases: [(&[u64], usize, usize, &[u8]); 6] = [
         (&[], 1, 4, b"abcd"),

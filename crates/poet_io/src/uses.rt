@@ -11,7 +11,8 @@ use std::mem;
 pub enum Use {
     /// The file of this name failed to open.
     Refused(Bytes),
-    /// The file was given back: its name, the bytes that were left of it, and whether a read of it had failed.
+    /// The file was given back: its name, the bytes that were left of it, and whether a read of it
+    /// had failed.
     Closed(Bytes, Bytes, bool),
 }
 
@@ -71,7 +72,8 @@ impl Uses {
 
     /// The newest, if there is one.
     pub fn newest(&self) -> Option<&Use>
-        ensures some { IfSome result (λ newest. (older : List Use) × (self.now ≡ newest.now ∷ older)) }
+        ensures some { IfSome result (λ newest. (older : List Use)
+            × (self.now ≡ newest.now ∷ older)) }
         ensures none { IfNone result (self.now ≡ []) }
     {
         match &self.chain {

@@ -17,10 +17,9 @@ use Rattle.causal_base.specs.Types.{TypeTable}
 use Rattle.causal_base.specs.InTurn.{DeliversSomething, SettlesTo, ComesInTurn}
 use Rattle.causal_base.specs.Past.{came, is_same_id, HasEvent, IsLegalPast}
 use Rattle.causal_base.specs.Journal.{came_by, IsLegal}
-use Rattle.causal_base.proofs.Ids.{is_same_id-same, same_from_is_same_id}
-use Rattle.causal_base.proofs.Journals.{reverse-push, came-append}
-use Rattle.causal_base.proofs.Members.{Contains-cons, Contains-here, Contains-there, Contains-nil}
-use Rattle.poet_top.specs.Ask.{most_events, most_plain_events, count_of_ids}
+use Rattle.causal_base.proofs.CallerLemmas.{is_same_id-same, same_from_is_same_id, reverse-push, came-append, Contains-cons, Contains-here, Contains-there, Contains-nil}
+use Rattle.causal_base.specs.declared.limits.TheConstants.{MOST_EVENTS, MOST_PLAIN_EVENTS}
+use Rattle.poet_top.specs.Ask.{count_of_ids}
 use Rattle.poet_top.specs.Taking.{HaveSameIds, HasTaken}
 use Rattle.poet_top.proofs.Turns.{took_known, took_new}
 
@@ -192,7 +191,7 @@ module _ (types : TypeTable) (events : List Event) (before : List Entry) (has : 
   }
 
   -- and one with a new id comes
-  pub taken_new : (later : List Entry) → ComesInTurn types most_events 0 before e later → length (came_by before) < most_plain_events → HasTaken types (events ++ e ∷ []) later
+  pub taken_new : (later : List Entry) → ComesInTurn types MOST_EVENTS 0 before e later → length (came_by before) < MOST_PLAIN_EVENTS → HasTaken types (events ++ e ∷ []) later
   taken_new later comes room =
       let now = came_settled types before later 0 e comes.settles in
       record {
@@ -203,11 +202,11 @@ module _ (types : TypeTable) (events : List Event) (before : List Entry) (has : 
       }
 
   -- where the list is full, there are more ids than it takes
-  pub taken_many : (others : List Event) → (HasEvent (came_by before) e.id → ⊥) → length (came_by before) ≡ most_plain_events → most_plain_events < count_of_ids (events ++ e ∷ others)
+  pub taken_many : (others : List Event) → (HasEvent (came_by before) e.id → ⊥) → length (came_by before) ≡ MOST_PLAIN_EVENTS → MOST_PLAIN_EVENTS < count_of_ids (events ++ e ∷ others)
   taken_many others new full = let more = count_more types before has.legal events has.same_ids e others new in omega (arith, more, full)
 
 -- as many ids as the list takes, at most
-pub taken_few : (types : TypeTable) (events : List Event) (journal : List Entry) → HasTaken types events journal → count_of_ids events ≤ most_plain_events
+pub taken_few : (types : TypeTable) (events : List Event) (journal : List Entry) → HasTaken types events journal → count_of_ids events ≤ MOST_PLAIN_EVENTS
 taken_few types events journal has = let count = count_is types journal has.legal events has.same_ids in let few = has.few in omega (arith, count, few)
 
 -- unique keys are keys, and differ

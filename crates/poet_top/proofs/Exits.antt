@@ -1,11 +1,7 @@
 use Rattle.std.proofs.Common.{◌≡◌, Option, Some, None, Result, Ok, Err, sym, subst}
-use Rattle.std.specs.Prelude.{OnErr, IfErr, IfNone, IsErrAnd}
+use Rattle.std.specs.Prelude.{IfErr, IfNone, IsErrAnd}
 
--- what holds, holds at an error, and at none
-pub on_err : {T E P : Type 0} (result : Result T E) → P → OnErr result P
-on_err (Ok value) holds = tt
-on_err (Err error) holds = holds
-
+-- what holds, holds at none
 pub if_none : {T P : Type 0} (result : Option T) → P → IfNone result P
 if_none None holds = holds
 if_none (Some value) holds = tt

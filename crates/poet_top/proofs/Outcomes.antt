@@ -7,7 +7,7 @@ use Rattle.causal_base.specs.Types.{TypeTable}
 use Rattle.causal_base.specs.TypeTables.{IsTypeTable}
 use Rattle.raw_reader.specs.declared.cause.LineError.{LineError}
 use Rattle.raw_reader.specs.Texts.{events_of}
-use Rattle.raw_reader.proofs.TextsOnce.{good_once, faulty_once, not_both, first_of_good, first_of_faulty}
+use Rattle.raw_reader.proofs.CallerLemmas.{good_once, faulty_once, not_both, first_of_good, first_of_faulty}
 use Rattle.poet_top.specs.Ask.{count_of_ids, IsAnswerOver, HasBadLine, HasManyIds}
 use Rattle.poet_top.proofs.Counted.{count_front}
 use Rattle.poet_top.proofs.Waiting.{events_append}

@@ -9,14 +9,14 @@ use Rattle.causal_base.specs.Types.{TypeTable}
 use Rattle.causal_base.specs.Past.{HasEvent}
 use Rattle.causal_base.specs.Journal.{came_by}
 use Rattle.causal_base.specs.InTurn.{TakesInTurn, ComesInTurn}
-use Rattle.poet_top.specs.Ask.{most_events}
+use Rattle.causal_base.specs.declared.limits.TheConstants.{MOST_EVENTS}
 use Rattle.poet_top.specs.Taking.{TookInTurn}
 
 nil_from_length : {A : Type 0} (xs : List A) → length xs ≡ 0 → xs ≡ []
 nil_from_length [] none = refl
 nil_from_length (x ∷ xs) none = absurd (omega arith)
 
--- what the iterator of a vector has given is a front of its items
+-- what the iterator of a vector has given is a prefix of its items
 pub taken_front : {X A : Type 0} (s : IntoIter X A) (xs : List X) (t : IntoIter X A) → Yields into_iter_steps s xs t → into_iter_items s ≡ xs ++ into_iter_items t
 taken_front s [] t y = ap into_iter_items y
 taken_front s (x ∷ xs) t y = y.1.0 ∙ ap (λ ys. x ∷ ys) (taken_front y.0 xs t y.2)
@@ -32,9 +32,9 @@ module _ (types : TypeTable) where
   took_known events e journal took known others after takes = rw append_assoc (took (e ∷ others) after (inl (known, takes)))
 
   -- and one with a new id comes
-  pub took_new : (events : List Event) (e : Event) (before later : List Entry) → TookInTurn types events [] before → ComesInTurn types most_events 0 before e later → TookInTurn types (events ++ e ∷ []) [] later
+  pub took_new : (events : List Event) (e : Event) (before later : List Entry) → TookInTurn types events [] before → ComesInTurn types MOST_EVENTS 0 before e later → TookInTurn types (events ++ e ∷ []) [] later
   took_new events e before later took comes others after takes = rw append_assoc (took (e ∷ others) after (inr (inr (later, comes, takes))))
 
   -- all events were taken
-  pub took_all : (events : List Event) (journal : List Entry) → TookInTurn types events [] journal → TakesInTurn types most_events 0 events [] (journal ++ Ended 0 ∷ [])
-  took_all events journal took = subst (λ es. TakesInTurn types most_events 0 es [] (journal ++ Ended 0 ∷ [])) (append-nil events) (took [] (journal ++ Ended 0 ∷ []) refl)
+  pub took_all : (events : List Event) (journal : List Entry) → TookInTurn types events [] journal → TakesInTurn types MOST_EVENTS 0 events [] (journal ++ Ended 0 ∷ [])
+  took_all events journal took = subst (λ es. TakesInTurn types MOST_EVENTS 0 es [] (journal ++ Ended 0 ∷ [])) (append-nil events) (took [] (journal ++ Ended 0 ∷ []) refl)

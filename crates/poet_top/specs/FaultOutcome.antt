@@ -8,7 +8,7 @@ use Rattle.raw_reader.specs.declared.cause.LineCause.TheVariants as line_cause
 use Rattle.raw_reader.specs.declared.cause.LineError.{LineError}
 use Rattle.poet_top.specs.declared.fault.Fault.{Fault}
 use Rattle.poet_top.specs.declared.fault.Fault.TheVariants.{Words, Open, Read, Line, Memory, Full}
-use Rattle.poet_top.specs.Ask.{HasBadLine, HasManyIds}
+use Rattle.poet_top.specs.Ask.{HasBadLine, HasManyIds, IsUndecidedUpTo, IsReadNoFurther}
 use Rattle.poet_top.specs.Outcome.{Outcome, Answered, NoPlan, NotOpened, NotRead, BadLine, NoMemory, ManyIds}
 
 -- the outcome that a fault is
@@ -25,16 +25,28 @@ abbrev pub outcome_of : Result (Answer Bool) Fault → Outcome
 outcome_of (Ok answer) = Answered answer
 outcome_of (Err fault) = outcome_of_fault fault
 
--- when there is no answer over the bytes of a source; nothing is told of them where a read failed
-abbrev pub HasNoAnswer : TypeTable → List ℕ → Fault → Type 0
-HasNoAnswer types bytes Words = ⊥
-HasNoAnswer types bytes (Open name) = ⊥
-HasNoAnswer types bytes (Read name) = Unit {0}
-HasNoAnswer types bytes (Line error) = HasBadLine types bytes error
-HasNoAnswer types bytes Memory = Unit {0}
-HasNoAnswer types bytes Full = HasManyIds types bytes
+-- when a fault shows in the bytes of a source; want of memory has no cause that is told
+abbrev pub ShowsFault : TypeTable → List ℕ → Fault → Type 0
+ShowsFault types bytes Words = ⊥
+ShowsFault types bytes (Open name) = ⊥
+ShowsFault types bytes (Read name) = ⊥
+ShowsFault types bytes (Line error) = HasBadLine types bytes error
+ShowsFault types bytes Memory = Unit {0}
+ShowsFault types bytes Full = HasManyIds types bytes
 
--- A fault over an open file of this name: a read of it failed and raised the count of its faults, or it left the count.
+-- when there is no answer over the bytes of a source, of which this was left: what was read before
+-- a read failed shows no fault, and no more was read than the piece in which one shows
+abbrev pub HasNoAnswer : TypeTable → (bytes left : List ℕ) → Fault → Type 0
+HasNoAnswer types bytes left Words = ⊥
+HasNoAnswer types bytes left (Open name) = ⊥
+HasNoAnswer types bytes left (Read name) = IsUndecidedUpTo types bytes left
+HasNoAnswer types bytes left (Line error) =
+    HasBadLine types bytes error × IsReadNoFurther types bytes left
+HasNoAnswer types bytes left Memory = Unit {0}
+HasNoAnswer types bytes left Full = HasManyIds types bytes × IsReadNoFurther types bytes left
+
+-- A fault over an open file of this name: a read of it failed and raised the count of its faults,
+-- or it left the count.
 abbrev pub CountsFault : List ℕ → Fault → (old new : ℕ) → Type 0
 CountsFault name Words old new = ⊥
 CountsFault name (Open its) old new = ⊥

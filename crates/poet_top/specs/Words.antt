@@ -1,5 +1,6 @@
 use Rattle.std.specs.Prelude.{◌≡◌, ℕ, List, [], ◌∷◌, codes}
 use Rattle.causal_base.specs.declared.event_id.EventId.{EventId}
+use Rattle.causal_base.specs.declared.limits.TheConstants.{MOST_TRACES}
 use Rattle.causal_base.specs.Fields.{IsIdInRange}
 
 -- The words are `ask`, the name of a file of events, and two ids.
@@ -7,8 +8,8 @@ pub record AreAskWords (words : List (List ℕ)) (name : List ℕ) (a b : EventI
   pub first : List ℕ
   pub second : List ℕ
   pub are : words ≡ codes "ask" ∷ name ∷ first ∷ second ∷ []
-  pub a_is : IsIdInRange first 256 a
-  pub b_is : IsIdInRange second 256 b
+  pub a_is : IsIdInRange first MOST_TRACES a
+  pub b_is : IsIdInRange second MOST_TRACES b
 
 -- the words ask for nothing
 abbrev pub AreNoPlan : List (List ℕ) → Type 0

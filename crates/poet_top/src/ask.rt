@@ -5,9 +5,9 @@ ghost use Rattle.poet_top.specs.Ends.{EndsOver};
 ghost use Rattle.poet_top.specs.FaultOutcome.{outcome_of, HasNoAnswer, CountsFault};
 
 use crate::fault::Fault;
-use crate::plan::{MOST_TRACES, Plan};
+use crate::plan::Plan;
 use crate::taking::take_events;
-use causal_base::{Answer, Plain, Types};
+use causal_base::{Answer, MOST_TRACES, Plain, Types};
 use poet_io::{Files, Source};
 use raw_reader::Reader;
 use std::alloc::Global;
@@ -19,9 +19,7 @@ pub fn ask<'a, F: Files>(
     files: &mut F,
 ) -> Result<Answer<bool>, Fault<'a>>
     ensures { EndsOver plan.now.name.now plan.now.a plan.now.b
-        (record { faults = F.faults files.old; folder = F.folder files.old; uses = F.uses files.old })
-        (record { faults = F.faults files.new; folder = F.folder files.new; uses = F.uses files.new })
-        (outcome_of result) }
+        (F.state files.old) (F.state files.new) (outcome_of result) }
 {
     let mut source = match files.open(alloc, plan.name) {
         Ok(source) => source,
@@ -38,15 +36,19 @@ fn answer_from<'a, S: Source>(
     plan: &Plan<'a>,
     source: &mut S,
 ) -> Result<Answer<bool>, Fault<'a>>
-    ensures ok { IfOk result (λ answer. IfSome (S.left source.old) (λ bytes. IsAnswerOver asked_types bytes plan.now.a plan.now.b answer)) }
-    ensures at_end { OnOk result (IfSome (S.left source.new) (λ left. left ≡ [])) }
-    ensures err { IfErr result (λ fault. IfSome (S.left source.old) (λ bytes. HasNoAnswer asked_types bytes fault)) }
+    ensures ok { IfOk result (λ answer. IfSome (S.state source.old).left
+        (λ bytes. IsAnswerOver asked_types bytes plan.now.a plan.now.b answer)) }
+    ensures at_end { OnOk result (IfSome (S.state source.new).left (λ left. left ≡ [])) }
+    ensures err { IfErr result (λ fault. IfSome (S.state source.old).left
+        (λ bytes. IfSome (S.state source.new).left
+        (λ left. HasNoAnswer asked_types bytes left fault))) }
 
-    ensures rest { LeavesRest (S.left source.old) (S.left source.new) }
-    ensures same_name { S.name source.new ≡ S.name source.old }
+    ensures rest { LeavesRest (S.state source.old).left (S.state source.new).left }
+    ensures same_name { (S.state source.new).name ≡ (S.state source.old).name }
     ensures faults { MatchResult result
-        (λ _. S.faults source.new ≡ S.faults source.old)
-        (λ fault. CountsFault plan.now.name.now fault (S.faults source.old) (S.faults source.new)) }
+        (λ _. (S.state source.new).faults ≡ (S.state source.old).faults)
+        (λ fault. CountsFault plan.now.name.now fault
+        (S.state source.old).faults (S.state source.new).faults) }
 {
     let Ok(types) = Types::builtin(alloc, MOST_TRACES) else {
         return Err(Fault::Memory);
@@ -61,8 +63,5 @@ fn answer_from<'a, S: Source>(
         &mut Reader::new(alloc, &types),
         &mut plain,
     )?;
-    match plain.before(alloc, plan.a, plan.b) {
-        Ok(answer) => Ok(answer),
-        Err(_) => Err(Fault::Memory),
-    }
+    Ok(plain.before(plan.a, plan.b))
 }

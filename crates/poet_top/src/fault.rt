@@ -1,6 +1,5 @@
-ghost use Rattle.std.specs.Prelude.{◌≡◌, ◌++◌, codes, OnOk, OnErr};
-ghost use Rattle.poet_io.specs.Faults.{IsRaised};
-ghost use Rattle.poet_io.specs.Grows.{Grows, GrowsByFront};
+ghost use Rattle.std.specs.Prelude.{◌≡◌, ◌++◌, codes};
+ghost use Rattle.poet_io.specs.Writes.{Writes};
 ghost use Rattle.poet_top.specs.Outcome.{BadLine, text_of_outcome};
 
 use crate::number::put_number;
@@ -63,10 +62,8 @@ impl<'a> Fault<'a> {
 
     /// Writes the line that says what is wrong.
     pub fn put<K: Sink>(&self, out: &mut K) -> Result<(), Failed>
-        ensures all { OnOk result (Grows (K.taken out.old) (K.taken out.new) (text_of_outcome (outcome_of_fault self.now))) }
-        ensures part { OnErr result (GrowsByFront (K.taken out.old) (K.taken out.new) (text_of_outcome (outcome_of_fault self.now))) }
-        ensures no_fault { OnOk result (K.faults out.new ≡ K.faults out.old) }
-        ensures fault { OnErr result (IsRaised (K.faults out.old) (K.faults out.new)) }
+        ensures { Writes (K.state out.old) (K.state out.new)
+            (text_of_outcome (outcome_of_fault self.now)) result }
     {
         match self {
             Fault::Words => put(out, b"poet: words\n"),
@@ -81,10 +78,8 @@ impl<'a> Fault<'a> {
 
 /// Writes a line that ends with a name, or the last part of one.
 fn put_named<K: Sink>(out: &mut K, what: &[u8], name: &str) -> Result<(), Failed>
-    ensures all { OnOk result (Grows (K.taken out.old) (K.taken out.new) (what.now ++ name.now ++ codes "\n")) }
-    ensures part { OnErr result (GrowsByFront (K.taken out.old) (K.taken out.new) (what.now ++ name.now ++ codes "\n")) }
-    ensures no_fault { OnOk result (K.faults out.new ≡ K.faults out.old) }
-    ensures fault { OnErr result (IsRaised (K.faults out.old) (K.faults out.new)) }
+    ensures { Writes (K.state out.old) (K.state out.new)
+        (what.now ++ name.now ++ codes "\n") result }
 {
     put(out, what)?;
     put(out, name.as_bytes())?;
@@ -93,10 +88,8 @@ fn put_named<K: Sink>(out: &mut K, what: &[u8], name: &str) -> Result<(), Failed
 
 /// Writes the line that says what is wrong with a line.
 fn put_line_error<K: Sink>(out: &mut K, error: &LineError) -> Result<(), Failed>
-    ensures all { OnOk result (Grows (K.taken out.old) (K.taken out.new) (text_of_outcome (BadLine error.now))) }
-    ensures part { OnErr result (GrowsByFront (K.taken out.old) (K.taken out.new) (text_of_outcome (BadLine error.now))) }
-    ensures no_fault { OnOk result (K.faults out.new ≡ K.faults out.old) }
-    ensures fault { OnErr result (IsRaised (K.faults out.old) (K.faults out.new)) }
+    ensures { Writes (K.state out.old) (K.state out.new)
+        (text_of_outcome (BadLine error.now)) result }
 {
     put(out, b"poet: line ")?;
     put_number(out, error.line)?;

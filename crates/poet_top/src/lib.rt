@@ -1,5 +1,5 @@
-//! The top call of poet: it reads the words of the command line, does what they say over a folder of files, and
-//! writes the outcome to a sink.
+//! The top call of poet: it reads the words of the command line, does what they say over a folder
+//! of files, and writes the outcome to a sink.
 #![tactic(auto)]
 
 pub use law::bytes_end_in_one_way;
@@ -9,6 +9,7 @@ mod answer;
 mod ask;
 mod fault;
 mod law;
+mod limits;
 mod number;
 mod plan;
 mod taking;

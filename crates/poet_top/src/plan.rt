@@ -3,13 +3,10 @@ ghost use Rattle.causal_base.specs.Fields.{IsIdInRange};
 ghost use Rattle.causal_base.specs.declared.event_id.EventId.{EventId};
 ghost use Rattle.poet_top.specs.Words.{AreAskWords, AreNoPlan};
 
-use causal_base::{EventId, id_of};
+use causal_base::{EventId, MOST_TRACES, id_of};
 
-/// How many traces there are: an id of the command line names one of them.
-pub const MOST_TRACES: u32 = 256;
-
-/// What the words of the command line ask for: whether the event `a` happened before the event `b`, over
-/// the events of the file of this name.
+/// What the words of the command line ask for: whether the event `a` happened before the event `b`,
+/// over the events of the file of this name.
 #[derive(Clone, Copy)]
 pub struct Plan<'a> {
     pub name: &'a str,
@@ -19,7 +16,8 @@ pub struct Plan<'a> {
 
 /// The plan that the words are, or none.
 pub fn plan_of(words: &[String]) -> Option<Plan<'_>>
-    ensures some { IfSome result (λ plan. AreAskWords (map string_bytes words.now) plan.name.now plan.a plan.b) }
+    ensures some { IfSome result (λ plan. AreAskWords (map string_bytes words.now) plan.name.now
+        plan.a plan.b) }
     ensures none { IfNone result (AreNoPlan (map string_bytes words.now)) }
 {
     let [command, name, a, b] = words else {
@@ -46,8 +44,8 @@ fn is_ask(word: &str) -> bool
 
 /// The event that a word names.
 fn id_word(word: &str) -> Option<EventId>
-    ensures some { IfSome result (IsIdInRange word.now 256) }
-    ensures none { IfNone result ((id : EventId) → IsIdInRange word.now 256 id → ⊥) }
+    ensures some { IfSome result (IsIdInRange word.now MOST_TRACES) }
+    ensures none { IfNone result ((id : EventId) → IsIdInRange word.now MOST_TRACES id → ⊥) }
 {
     id_of(word.as_bytes(), MOST_TRACES).ok()
 }

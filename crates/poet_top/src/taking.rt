@@ -5,45 +5,52 @@ ghost use Rattle.std.specs.List.{AllByRecursion};
 ghost use Rattle.causal_base.specs.declared.event.Event.{Event};
 ghost use Rattle.causal_base.specs.Event.{IsFit};
 ghost use Rattle.poet_io.specs.Takes.{LeavesRest};
-ghost use Rattle.raw_reader.specs.ReaderState.{StandsFor, StandsAtEnd};
-ghost use Rattle.poet_top.specs.Ask.{most_plain_events, count_of_ids, HasManyIds};
-ghost use Rattle.poet_top.specs.FaultOutcome.{HasNoAnswer, CountsFault};
+ghost use Rattle.raw_reader.specs.ReaderState.{HasRead, HasReadToEnd};
+ghost use Rattle.causal_base.specs.declared.limits.TheConstants.{MOST_PLAIN_EVENTS};
+ghost use Rattle.poet_top.specs.Ask.{count_of_ids, HasManyIds};
+ghost use Rattle.poet_top.specs.FaultOutcome.{ShowsFault, HasNoAnswer, CountsFault};
 ghost use Rattle.poet_top.specs.Taking.{HasTaken, HasTakenFrom, HasTakenAll};
 
 use crate::fault::Fault;
+use crate::limits::MOST_READ;
 use causal_base::{Event, Plain, Refusal};
 use poet_io::Source;
 use raw_reader::{Batch, Reader};
 
-/// How many bytes one read may give.
-const BUFFER: usize = 4096;
-
-/// Takes the events of a whole source, which was opened by this name, from a new reader into a new list. It ends at the first
-/// fault, at the first event that the list is full for, and where a read fails or memory runs out.
+/// Takes the events of a whole source, which was opened by this name, from a new reader into a new
+/// list. It ends at the first fault, at the first event that the list is full for, and where a read
+/// fails or memory runs out.
 pub fn take_events<'a, S: Source>(
     name: &'a str,
     source: &mut S,
     reader: &mut Reader<'_>,
     plain: &mut Plain,
 ) -> Result<(), Fault<'a>>
-    requires new { HasTakenFrom StandsFor reader.old [] plain.old.journal }
+    requires new { HasTakenFrom HasRead reader.old [] plain.old.journal }
     requires going { reader.old.refusal ≡ None }
+    requires none_waits { reader.old.waiting ≡ [] }
     requires types { reader.old.types ≡ plain.old.types }
 
-    ensures ok { OnOk result (IfSome (S.left source.old) (λ bytes. HasTakenAll plain.old.types bytes plain.new.journal)) }
-    ensures at_end { OnOk result (IfSome (S.left source.new) (λ left. left ≡ [])) }
-    ensures err { IfErr result (λ fault. IfSome (S.left source.old) (λ bytes. HasNoAnswer plain.old.types bytes fault)) }
+    ensures ok { OnOk result (IfSome (S.state source.old).left
+        (λ bytes. HasTakenAll plain.old.types bytes plain.new.journal)) }
+    ensures at_end { OnOk result (IfSome (S.state source.new).left (λ left. left ≡ [])) }
+    ensures err { IfErr result (λ fault. IfSome (S.state source.old).left
+        (λ bytes. IfSome (S.state source.new).left
+        (λ left. HasNoAnswer plain.old.types bytes left fault))) }
     ensures same_types { plain.new.types ≡ plain.old.types }
 
-    ensures rest { LeavesRest (S.left source.old) (S.left source.new) }
-    ensures same_name { S.name source.new ≡ S.name source.old }
+    ensures rest { LeavesRest (S.state source.old).left (S.state source.new).left }
+    ensures same_name { (S.state source.new).name ≡ (S.state source.old).name }
     ensures faults { MatchResult result
-        (λ _. S.faults source.new ≡ S.faults source.old)
-        (λ fault. CountsFault name.now fault (S.faults source.old) (S.faults source.new)) }
+        (λ _. (S.state source.new).faults ≡ (S.state source.old).faults)
+        (λ fault. CountsFault name.now fault
+        (S.state source.old).faults (S.state source.new).faults) }
 {
-    let mut buffer = [0u8; BUFFER];
+    let mut buffer = [0u8; MOST_READ];
     loop {
-        let count = source.read(&mut buffer).map_err(|_| Fault::Read(name))?;
+        let Ok(count) = source.read(&mut buffer) else {
+            return Err(Fault::Read(name));
+        };
         if count == 0 {
             return take_end(reader, plain);
         }
@@ -53,17 +60,20 @@ pub fn take_events<'a, S: Source>(
 
 /// Takes the next piece of the text, and the events of the batches that it closes.
 fn take_piece<'a>(piece: &[u8], reader: &mut Reader<'_>, plain: &mut Plain) -> Result<(), Fault<'a>>
-    requires fed { (fed : List ℕ) × HasTakenFrom StandsFor reader.old fed plain.old.journal }
+    requires fed { (fed : List ℕ) × HasTakenFrom HasRead reader.old fed plain.old.journal }
     requires types { reader.old.types ≡ plain.old.types }
 
-    ensures ok { OnOk result ((fed : List ℕ) → HasTakenFrom StandsFor reader.old fed plain.old.journal
-        → HasTakenFrom StandsFor reader.new (fed ++ piece.now) plain.new.journal) }
+    ensures ok { OnOk result ((fed : List ℕ) → HasTakenFrom HasRead reader.old fed plain.old.journal
+        → HasTakenFrom HasRead reader.new (fed ++ piece.now) plain.new.journal) }
     ensures going { OnOk result (reader.new.refusal ≡ None) }
+    ensures none_waits { OnOk result (reader.new.waiting ≡ []) }
 
     // Whatever follows.
-    ensures err { IfErr result (λ fault. (fed more : List ℕ) → HasTakenFrom StandsFor reader.old fed plain.old.journal
-        → HasNoAnswer plain.old.types (fed ++ piece.now ++ more) fault) }
-    ensures no_count { IfErr result (λ fault. (name : List ℕ) (count : ℕ) → CountsFault name fault count count) }
+    ensures err { IfErr result (λ fault. (fed more : List ℕ)
+        → HasTakenFrom HasRead reader.old fed plain.old.journal
+        → ShowsFault plain.old.types (fed ++ piece.now ++ more) fault) }
+    ensures no_count { IfErr result (λ fault. (name : List ℕ) (count : ℕ)
+        → CountsFault name fault count count) }
     ensures same_types { plain.new.types ≡ plain.old.types }
     ensures its_types { reader.new.types ≡ reader.old.types }
 {
@@ -77,14 +87,16 @@ fn take_piece<'a>(piece: &[u8], reader: &mut Reader<'_>, plain: &mut Plain) -> R
 
 /// Takes the end of the text, and the events of the batches that wait then.
 fn take_end<'a>(reader: &mut Reader<'_>, plain: &mut Plain) -> Result<(), Fault<'a>>
-    requires fed { (fed : List ℕ) × HasTakenFrom StandsFor reader.old fed plain.old.journal }
+    requires fed { (fed : List ℕ) × HasTakenFrom HasRead reader.old fed plain.old.journal }
     requires types { reader.old.types ≡ plain.old.types }
 
-    ensures ok { OnOk result ((fed : List ℕ) → HasTakenFrom StandsFor reader.old fed plain.old.journal
+    ensures ok { OnOk result ((fed : List ℕ) → HasTakenFrom HasRead reader.old fed plain.old.journal
         → HasTakenAll plain.old.types fed plain.new.journal) }
-    ensures err { IfErr result (λ fault. (fed : List ℕ) → HasTakenFrom StandsFor reader.old fed plain.old.journal
-        → HasNoAnswer plain.old.types fed fault) }
-    ensures no_count { IfErr result (λ fault. (name : List ℕ) (count : ℕ) → CountsFault name fault count count) }
+    ensures err { IfErr result (λ fault. (fed : List ℕ)
+        → HasTakenFrom HasRead reader.old fed plain.old.journal
+        → ShowsFault plain.old.types fed fault) }
+    ensures no_count { IfErr result (λ fault. (name : List ℕ) (count : ℕ)
+        → CountsFault name fault count count) }
     ensures same_types { plain.new.types ≡ plain.old.types }
 {
     let ended = reader.end();
@@ -97,20 +109,24 @@ fn take_end<'a>(reader: &mut Reader<'_>, plain: &mut Plain) -> Result<(), Fault<
 
 /// Offers the events of all batches that wait.
 fn offer_waiting<'a>(reader: &mut Reader<'_>, plain: &mut Plain) -> Result<(), Fault<'a>>
-    requires fed { (fed : List ℕ) × (HasTakenFrom StandsFor reader.old fed plain.old.journal
-        ⊎ HasTakenFrom StandsAtEnd reader.old fed plain.old.journal) }
+    requires fed { (fed : List ℕ) × (HasTakenFrom HasRead reader.old fed plain.old.journal
+        ⊎ HasTakenFrom HasReadToEnd reader.old fed plain.old.journal) }
     requires types { reader.old.types ≡ plain.old.types }
 
     ensures none_waits { OnOk result (reader.new ≡ record reader.old { waiting = [] }) }
-    ensures going_on { OnOk result ((fed : List ℕ) → HasTakenFrom StandsFor reader.old fed plain.old.journal
-        → HasTakenFrom StandsFor reader.new fed plain.new.journal) }
-    ensures at_end { OnOk result ((fed : List ℕ) → HasTakenFrom StandsAtEnd reader.old fed plain.old.journal
-        → HasTakenFrom StandsAtEnd reader.new fed plain.new.journal) }
+    ensures going_on { OnOk result ((fed : List ℕ)
+        → HasTakenFrom HasRead reader.old fed plain.old.journal
+        → HasTakenFrom HasRead reader.new fed plain.new.journal) }
+    ensures at_end { OnOk result ((fed : List ℕ)
+        → HasTakenFrom HasReadToEnd reader.old fed plain.old.journal
+        → HasTakenFrom HasReadToEnd reader.new fed plain.new.journal) }
 
     // Full for an event of these batches: so many ids, whatever follows.
     ensures err { IfErr result (λ fault. (fault ≡ Fault.Memory) ⊎ ((fault ≡ Fault.Full)
-        × ((fed more : List ℕ) → HasTakenFrom StandsFor reader.old fed plain.old.journal → HasManyIds plain.old.types (fed ++ more))
-        × ((fed : List ℕ) → HasTakenFrom StandsAtEnd reader.old fed plain.old.journal → HasManyIds plain.old.types fed))) }
+        × ((fed more : List ℕ) → HasTakenFrom HasRead reader.old fed plain.old.journal
+        → HasManyIds plain.old.types (fed ++ more))
+        × ((fed : List ℕ) → HasTakenFrom HasReadToEnd reader.old fed plain.old.journal
+        → HasManyIds plain.old.types fed))) }
     ensures same_types { plain.new.types ≡ plain.old.types }
     ensures its_types { reader.new.types ≡ reader.old.types }
 {
@@ -124,11 +140,12 @@ fn offer_waiting<'a>(reader: &mut Reader<'_>, plain: &mut Plain) -> Result<(), F
 fn offer_all<'a>(plain: &mut Plain, batch: Batch) -> Result<(), Fault<'a>>
     requires { AllByRecursion (IsFit plain.old.types) batch }
     ensures types { plain.new.types ≡ plain.old.types }
-    ensures taken { OnOk result ((events : List Event) → HasTaken plain.old.types events plain.old.journal
+    ensures taken { OnOk result ((events : List Event)
+        → HasTaken plain.old.types events plain.old.journal
         → HasTaken plain.old.types (events ++ batch) plain.new.journal) }
     ensures err { IfErr result (λ fault. (fault ≡ Fault.Memory) ⊎ ((fault ≡ Fault.Full)
         × ((events others : List Event) → HasTaken plain.old.types events plain.old.journal
-        → most_plain_events < count_of_ids (events ++ (batch ++ others))))) }
+        → MOST_PLAIN_EVENTS < count_of_ids (events ++ (batch ++ others))))) }
 {
     for event in batch.into_vec() {
         offer(plain, event)?;
@@ -140,11 +157,12 @@ fn offer_all<'a>(plain: &mut Plain, batch: Batch) -> Result<(), Fault<'a>>
 pub fn offer<'a>(plain: &mut Plain, event: Event) -> Result<(), Fault<'a>>
     requires { IsFit plain.old.types event }
     ensures types { plain.new.types ≡ plain.old.types }
-    ensures taken { OnOk result ((events : List Event) → HasTaken plain.old.types events plain.old.journal
+    ensures taken { OnOk result ((events : List Event)
+        → HasTaken plain.old.types events plain.old.journal
         → HasTaken plain.old.types (events ++ event ∷ []) plain.new.journal) }
     ensures err { IfErr result (λ fault. (fault ≡ Fault.Memory) ⊎ ((fault ≡ Fault.Full)
         × ((events others : List Event) → HasTaken plain.old.types events plain.old.journal
-        → most_plain_events < count_of_ids (events ++ event ∷ others)))) }
+        → MOST_PLAIN_EVENTS < count_of_ids (events ++ event ∷ others)))) }
 {
     match plain.offer(event) {
         Ok(()) => Ok(()),

@@ -1,21 +1,23 @@
-//! Tests of what no clause says: that calls succeed where memory is left, the texts and statuses, and answers that
-//! were worked out by hand.
+//! Tests of what no clause says: that calls succeed where memory is left, the texts and statuses,
+//! and answers that were worked out by hand.
 
 ghost use Rattle.std.specs.Prelude.{◌≡◌, ◌<◌, IfOk};
 
 use crate::poet_still;
 use crate::taking::offer;
-use causal_base::{Answer, EventId, Kind, Plain, Text, TypeRow, Types, id_of};
+use causal_base::{Answer, Causal, EventId, Kind, Plain, Steps, Text, TypeRow, Types, id_of};
 use poet_io::{MemFolder, MemSink};
 use raw_reader::event_of;
 use std::alloc::{AllocError, Global};
+use std::marker::Brand;
+use std::sync::ledger::{Blank, Ledger};
 use std::test::Fail;
 
 /// How many bytes a sink takes: no test writes so much.
 const ROOM: usize = 1000;
 
 /// How many traces the table of lists has.
-const TRACES: u32 = 4;
+const TRACES: u32 = 5;
 
 fn words_from(alloc: Global, words: &[&str]) -> Result<Vec<String>, AllocError> {
     let mut owned = Vec::new(alloc);
@@ -25,8 +27,9 @@ fn words_from(alloc: Global, words: &[&str]) -> Result<Vec<String>, AllocError> 
     Ok(owned)
 }
 
-/// The status and the text for these words, over a folder with the file `e.txt`, whose reads with the numbers of
-/// `fail_reads` fail. The sink takes `most` bytes a call, and its calls with the numbers of `fail_writes` fail.
+/// The status and the text for these words, over a folder with the file `e.txt`, whose reads with
+/// the numbers of `fail_reads` fail. The sink takes `most` bytes a call, and its calls with the
+/// numbers of `fail_writes` fail.
 fn run(
     alloc: Global,
     words: &[&str],
@@ -218,8 +221,8 @@ fn writes_fail(rt: HostRuntime) -> Result<(), Fail> {
     Ok(())
 }
 
-/// With each request for memory refused in turn, the text of the answer comes or `poet: memory`. Where the test
-/// itself gets no memory, it has nothing to say.
+/// With each request for memory refused in turn, the text of the answer comes or `poet: memory`.
+/// Where the test itself gets no memory, it has nothing to say.
 #[test]
 fn memory_runs_out(rt: HostRuntime) -> Result<(), Fail> {
     let words = ["ask", "e.txt", "0.1", "1.1"];
@@ -326,6 +329,7 @@ fn offer_lines(
     text: &str,
 ) -> Result<bool, AllocError>
     requires { plain.old.types ≡ types.now }
+    ensures { plain.new.types ≡ plain.old.types }
 {
     for line in text.lines() {
         let Some(event) = event_of(alloc, line.as_bytes(), types)? else {
@@ -364,16 +368,16 @@ fn delivers_just(plain: &Plain, ids: &str) -> bool {
 }
 
 /// Whether the plain list answers as the line `A B ANSWER` says.
-fn answers_so(alloc: Global, plain: &Plain, line: &str) -> Result<bool, AllocError> {
+fn answers_so(plain: &Plain, line: &str) -> bool {
     let Some((a, rest)) = line.split_once(' ') else {
-        return Ok(false);
+        return false;
     };
     let Some((b, told)) = rest.split_once(' ') else {
-        return Ok(false);
+        return false;
     };
     match (id_of(a.as_bytes(), TRACES), id_of(b.as_bytes(), TRACES)) {
-        (Ok(a), Ok(b)) => Ok(is_told(plain.before(alloc, a, b)?, told)),
-        _ => Ok(false),
+        (Ok(a), Ok(b)) => is_told(plain.before(a, b), told),
+        _ => false,
     }
 }
 
@@ -540,7 +544,7 @@ const CASES: [(&str, &str, &str); 39] = [
         "0.1 1.1 1.2 2.1 2.2 3.1",
         "0.1 3.1 yes\n1.1 3.1 yes\n1.2 2.2 yes\n2.1 3.1 yes\n3.1 0.1 no\n2.1 1.2 no\n2.2 1.1 no",
     ),
-    // A pair behind a receive that never goes, and one behind an event that comes last.
+    // A pair behind a receive that is never delivered, and one behind an event that comes last.
     (
         "0.1 r 1.4 0\n0.2 y 1.1 0\n1.1 y 0.2 0\n1.2 u - 0\n",
         "",
@@ -589,8 +593,139 @@ fn delivers_by_cause(rt: HostRuntime) -> Result<(), Fail> {
         let plain = plain_of(alloc, text)?.ok_or("the lines are refused")?;
         assert!(rt; delivers_just(&plain, delivered), "{text}");
         for line in questions.lines() {
-            assert!(rt; answers_so(alloc, &plain, line)?, "{line} over {text}");
+            assert!(rt; answers_so(&plain, line), "{line} over {text}");
         }
     }
     Ok(())
+}
+
+/// A line of an event, and the clock of that event.
+type Clocked = (&'static str, [u32; 5]);
+
+/// Three traces, each of which hears of the one before it.
+const CHAIN: [Clocked; 5] = [
+    ("0.1 s - 0", [1, 0, 0, 0, 0]),
+    ("1.1 r 0.1 0", [1, 1, 0, 0, 0]),
+    ("1.2 s - 0", [1, 2, 0, 0, 0]),
+    ("2.1 r 1.2 0", [1, 2, 1, 0, 0]),
+    ("2.2 u - 0", [1, 2, 2, 0, 0]),
+];
+
+/// Five traces, of which each hears of others.
+const FIVE: [Clocked; 15] = [
+    ("0.1 s - 0", [1, 0, 0, 0, 0]),
+    ("1.1 r 0.1 0", [1, 1, 0, 0, 0]),
+    ("2.1 s - 0", [0, 0, 1, 0, 0]),
+    ("3.1 r 2.1 0", [0, 0, 1, 1, 0]),
+    ("1.2 s - 0", [1, 2, 0, 0, 0]),
+    ("2.2 r 1.2 0", [1, 2, 2, 0, 0]),
+    ("2.3 u - 0", [1, 2, 3, 0, 0]),
+    ("2.4 s - 0", [1, 2, 4, 0, 0]),
+    ("4.1 r 2.4 0", [1, 2, 4, 0, 1]),
+    ("4.2 u - 0", [1, 2, 4, 0, 2]),
+    ("4.3 s - 0", [1, 2, 4, 0, 3]),
+    ("0.2 r 4.3 0", [2, 2, 4, 0, 3]),
+    ("0.3 s - 0", [3, 2, 4, 0, 3]),
+    ("2.5 r 0.3 0", [3, 2, 5, 0, 3]),
+    ("2.6 u - 0", [3, 2, 6, 0, 3]),
+];
+
+/// Partners, and an event behind one of them.
+const HALVES: [Clocked; 4] = [
+    ("0.1 u - 0", [1, 0, 0, 0, 0]),
+    ("0.2 y 1.1 0", [2, 1, 0, 0, 0]),
+    ("1.1 y 0.2 0", [2, 1, 0, 0, 0]),
+    ("1.2 u - 0", [2, 2, 0, 0, 0]),
+];
+
+#[test]
+fn clocks_are_those_worked_out(rt: HostRuntime) -> Result<(), Fail> {
+    let alloc = rt.alloc();
+    for rows in [&CHAIN[..], &FIVE[..], &HALVES[..]] {
+        let plain = plain_with(alloc, rows)?.ok_or("a line was refused")?;
+        assert!(rt; have_clocks::<Plain, Brand>(&plain, rows, Blank::new(1)));
+    }
+    Ok(())
+}
+
+/// The plain list of the events of these rows, if each line is an event and none is refused.
+fn plain_with(alloc: Global, rows: &[Clocked]) -> Result<Option<Plain>, AllocError> {
+    let types = types_of_all_kinds(alloc)?;
+    let mut plain = Plain::new(alloc, types.copy(alloc)?);
+    if offer_rows(alloc, &types, &mut plain, rows)? {
+        Ok(Some(plain))
+    } else {
+        Ok(None)
+    }
+}
+
+/// Offers the events of these rows, and says whether each line was one and none was refused.
+fn offer_rows(
+    alloc: Global,
+    types: &Types,
+    plain: &mut Plain,
+    rows: &[Clocked],
+) -> Result<bool, AllocError>
+    requires { plain.old.types ≡ types.now }
+{
+    for (line, _) in rows {
+        if !offer_lines(alloc, types, plain, line)? {
+            return Ok(false);
+        }
+    }
+    Ok(true)
+}
+
+/// Whether the events of these rows have their clocks, whole and number by number, and one that
+/// isn't delivered has none. It is generic, so it asks by the trait alone.
+fn have_clocks<C: Causal, L: Ledger>(causal: &C, rows: &[Clocked], blank: Blank) -> bool
+    requires name { blank.name ≡ L.name }
+    requires parts { blank.parts ≡ L.parts }
+    requires some { 0 < blank.parts }
+{
+    let mut steps = Steps::<L>::new(blank);
+    for (line, expected) in rows {
+        let Some(id) = first_id(line) else {
+            return false;
+        };
+        if !has_clock(causal, id, expected, &mut steps) {
+            return false;
+        }
+    }
+    causal.traces() > 0
+        && causal.event(ABSENT).is_none()
+        && causal.component(ABSENT, 0, &mut steps).is_none()
+}
+
+/// Whether the event with this id is delivered and has this clock.
+fn has_clock<C: Causal, L: Ledger>(
+    causal: &C,
+    id: EventId,
+    expected: &[u32],
+    steps: &mut Steps<L>,
+) -> bool {
+    let mut clock = [9; 5];
+    if causal.traces() != 5
+        || !causal.clock(id, &mut clock, steps)
+        || clock.as_slice() != expected
+    {
+        return false;
+    }
+    for trace in 0..causal.traces() {
+        if causal.component(id, trace, steps) != expected.get(trace as usize).copied() {
+            return false;
+        }
+    }
+    true
+}
+
+/// An id that no worked history has.
+const ABSENT: EventId = EventId {
+    trace: 0,
+    number: 1_000,
+};
+
+/// The id with which a line begins.
+fn first_id(line: &str) -> Option<EventId> {
+    id_of(line.split_whitespace().next()?.as_bytes(), TRACES).ok()
 }

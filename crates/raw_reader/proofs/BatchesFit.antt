@@ -6,8 +6,9 @@ use Rattle.causal_base.specs.declared.event.Event.{Event}
 use Rattle.causal_base.specs.Event.{IsFit}
 use Rattle.causal_base.specs.Types.{TypeTable}
 use Rattle.raw_reader.specs.declared.cause.LineError.{LineError}
-use Rattle.raw_reader.specs.ReaderState.{ReaderState, ReadsOn, RanOut, MetFault, StandsFor, StandsAtEnd}
-use Rattle.raw_reader.specs.Texts.{Line, stop, says, IsFitLine, Batches, piece_of, closed_off, batches_with, batches_from, batches_of, most_in_batch, HasClosed, IsGoodText, HasFault}
+use Rattle.raw_reader.specs.ReaderState.{ReaderState, ReadsOn, RanOut, MetFault, HasRead, HasReadToEnd}
+use Rattle.raw_reader.specs.declared.limits.TheConstants.{MOST_IN_BATCH}
+use Rattle.raw_reader.specs.Texts.{TextLine, stop, says, IsFitLine, Batches, piece_of, closed_off, batches_with, batches_from, batches_of, IsGoodText, HasFault}
 
 -- what holds of all of two lists holds of all of both
 pub all_append : {A : Type 0} (P : A → Type 0) (xs ys : List A) → AllByRecursion P xs → AllByRecursion P ys → AllByRecursion P (xs ++ ys)
@@ -38,21 +39,18 @@ module _ (types : TypeTable) where
   by_length more true fit = off_fit more fit
   by_length more false fit = fit
 
-  with_fit : (batches : Batches) (line : Line) → HaveFit batches → IsFitLine types line → HaveFit (batches_with batches line)
+  with_fit : (batches : Batches) (line : TextLine) → HaveFit batches → IsFitLine types line → HaveFit (batches_with batches line)
   with_fit batches stop fit line = off_fit batches fit
   with_fit batches (says e) fit line =
-      by_length (record { closed = batches.closed; begun = batches.begun ++ e ∷ [] }) (length (batches.begun ++ e ∷ []) == most_in_batch)
+      by_length (record { closed = batches.closed; begun = batches.begun ++ e ∷ [] }) (length (batches.begun ++ e ∷ []) == MOST_IN_BATCH)
       (record { closed = fit.closed; begun = all_append (IsFit types) batches.begun (e ∷ []) fit.begun (line, tt) })
 
-  from_fit : (start : Batches) (lines : List Line) → HaveFit start → AllByRecursion (IsFitLine types) lines → HaveFit (batches_from start lines)
+  from_fit : (start : Batches) (lines : List TextLine) → HaveFit start → AllByRecursion (IsFitLine types) lines → HaveFit (batches_from start lines)
   from_fit start [] fit all = fit
   from_fit start (line ∷ lines) fit all = from_fit (batches_with start line) lines (with_fit start line fit all.0) all.1
 
-  lines_fit : (lines : List Line) → AllByRecursion (IsFitLine types) lines → HaveFit (batches_of lines)
+  lines_fit : (lines : List TextLine) → AllByRecursion (IsFitLine types) lines → HaveFit (batches_of lines)
   lines_fit lines all = from_fit (record { closed = []; begun = [] }) lines (record { closed = tt; begun = tt }) all
-
-  closed_fit : (bytes : List ℕ) (batches : List (List Event)) → HasClosed types bytes batches → AllByRecursion AreFit batches
-  closed_fit bytes batches has = subst (AllByRecursion AreFit) has.closed (lines_fit has.lines has.fit).closed
 
   good_fit : (bytes : List ℕ) (batches : List (List Event)) → IsGoodText types bytes batches → AllByRecursion AreFit batches
   good_fit bytes batches good = subst (AllByRecursion AreFit) good.closed (off_fit (batches_of good.lines) (lines_fit good.lines good.fit)).closed
@@ -67,19 +65,19 @@ module _ (reader : ReaderState) (fed : List ℕ) (taken : List (List Event)) whe
   stands_fit : (refusal : Option LineError) → MatchOption refusal (ReadsOn reader fed taken) (λ error. RanOut reader fed taken error ⊎ MetFault reader fed taken error) → AllByRecursion (AreFit reader.types) (taken ++ reader.waiting)
   stands_fit None on = subst (AllByRecursion (AreFit reader.types)) (ap (λ (b : Batches). b.closed) on.batches) (lines_fit reader.types on.lines on.fit).closed
   stands_fit (Some error) refused = elim refused [
-    | inl out ↦ closed_fit reader.types fed (taken ++ reader.waiting) out.1
+    | inl out ↦ subst (AllByRecursion (AreFit reader.types)) out.closed (lines_fit reader.types out.lines out.fit).closed
     | inr met ↦ subst (AllByRecursion (AreFit reader.types)) met.batches (lines_fit reader.types met.lines met.fault.fit).closed
   ]
 
   ended_fit : (refusal : Option LineError) → MatchOption refusal (IsGoodText reader.types fed (taken ++ reader.waiting)) (λ error. RanOut reader fed taken error ⊎ HasFault reader.types fed (taken ++ reader.waiting) error) → AllByRecursion (AreFit reader.types) (taken ++ reader.waiting)
   ended_fit None good = good_fit reader.types fed (taken ++ reader.waiting) good
   ended_fit (Some error) refused = elim refused [
-    | inl out ↦ closed_fit reader.types fed (taken ++ reader.waiting) out.1
+    | inl out ↦ subst (AllByRecursion (AreFit reader.types)) out.closed (lines_fit reader.types out.lines out.fit).closed
     | inr met ↦ fault_fit reader.types fed (taken ++ reader.waiting) error met
   ]
 
   -- the events of the batches that wait are fit
-  pub waiting_fit : StandsFor reader fed taken ⊎ StandsAtEnd reader fed taken → AllByRecursion (AllByRecursion (IsFit reader.types)) reader.waiting
+  pub waiting_fit : HasRead reader fed taken ⊎ HasReadToEnd reader fed taken → AllByRecursion (AllByRecursion (IsFit reader.types)) reader.waiting
   waiting_fit stands = elim stands [
     | inl on ↦ all_back (AreFit reader.types) taken reader.waiting (stands_fit reader.refusal on)
     | inr ended ↦ all_back (AreFit reader.types) taken reader.waiting (ended_fit reader.refusal ended)
@@ -87,7 +85,7 @@ module _ (reader : ReaderState) (fed : List ℕ) (taken : List (List Event)) whe
 
 -- so are those of the oldest, if one was taken
 pub fit_taken : (reader whole : ReaderState) → reader ≡ whole → (result : Option (List Event)) (rest : List (List Event)) → reader.waiting ≡ option_to_list result ++ rest
-    → IfSome result (λ batch. (fed : List ℕ) (taken : List (List Event)) → StandsFor whole fed taken ⊎ StandsAtEnd whole fed taken → AllByRecursion (IsFit whole.types) batch)
+    → IfSome result (λ batch. (fed : List ℕ) (taken : List (List Event)) → HasRead whole fed taken ⊎ HasReadToEnd whole fed taken → AllByRecursion (IsFit whole.types) batch)
 fit_taken reader whole same None rest is = tt
 fit_taken reader whole same (Some batch) rest is = λ fed taken stands.
     (subst (AllByRecursion (AllByRecursion (IsFit whole.types))) (ap (λ (r : ReaderState). r.waiting) (sym same) ∙ is) (waiting_fit whole fed taken stands)).0

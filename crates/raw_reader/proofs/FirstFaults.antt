@@ -9,71 +9,37 @@ use Rattle.causal_base.specs.declared.fields.IdFault.{IdFault}
 use Rattle.causal_base.specs.declared.fields.IdFault.TheVariants as id_fault
 use Rattle.causal_base.specs.declared.kind.Kind.{Kind}
 use Rattle.causal_base.specs.Event.{IsFit, IsInRange, NamesAnother}
-use Rattle.causal_base.specs.Fields.{IsIdInRange, HasIdFault, IsNoId, NamesNoTrace, NamesNoNumber}
+use Rattle.causal_base.specs.Fields.{IsIdInRange, HasIdFault}
 use Rattle.causal_base.specs.Spelling.{IsId, IsName, id_text, mate_text, name_of, spelling, text_part}
 use Rattle.causal_base.specs.Types.{TypeTable, kind_of}
 use Rattle.causal_base.specs.TypeTables.{IsTypeTable}
-use Rattle.causal_base.proofs.Members.{Contains-there, Contains-nil}
-use Rattle.causal_base.proofs.Decimals.{below_two_to_64}
-use Rattle.causal_base.proofs.IdTexts.{fault_excludes, id_once, no_id_uncut}
+use Rattle.causal_base.proofs.CallerLemmas.{Contains-there, Contains-nil, below_two_to_64, fault_excludes, id_once, no_id_unsplit, passed_both, passed_first}
 use Rattle.raw_reader.specs.declared.cause.LineCause.{LineCause}
-use Rattle.raw_reader.specs.declared.cause.LineCause.TheVariants.{Shape, BadId, NoTrace, BadNumber}
+use Rattle.raw_reader.specs.declared.cause.LineCause.TheVariants.{Shape}
 use Rattle.raw_reader.specs.Splits.{IsSplit}
 use Rattle.raw_reader.proofs.Splitting.{split_once}
 use Rattle.raw_reader.proofs.Spelled.{has_type, spelling_is_split}
-use Rattle.raw_reader.specs.Causes.{Faults, IsFirst, NoneHolds, id_faults, id_cause, mate_faults, end_faults, Fields, AreFields, HasType, IsFieldsCause, IsCause}
-
--- the first fault of some is that of these and more
-pub first_of_some : (some more : Faults) (cause : LineCause) → IsFirst some cause → IsFirst (some ++ more) cause
-first_of_some [] more cause first = absurd first
-first_of_some (fault ∷ some) more cause first = elim first [ inl holds ↦ inl holds | inr later ↦ inr (later.0, first_of_some some more cause later.1) ]
-
--- and where none of them holds, the first of others is that of all
-pub first_of_more : (some more : Faults) (cause : LineCause) → NoneHolds some → IsFirst more cause → IsFirst (some ++ more) cause
-first_of_more [] more cause none first = first
-first_of_more (fault ∷ some) more cause none first = inr (none.0, first_of_more some more cause none.1 first)
-
--- where none of the faults holds, none is the first
-pub none_is_first : (faults : Faults) (cause : LineCause) → NoneHolds faults → IsFirst faults cause → ⊥
-none_is_first [] cause none first = first
-none_is_first (fault ∷ faults) cause none first = elim first [ inl holds ↦ none.0 holds.0 | inr later ↦ none_is_first faults cause none.1 later.1 ]
-
-pub none_of_both : (some more : Faults) → NoneHolds some → NoneHolds more → NoneHolds (some ++ more)
-none_of_both [] more none others = others
-none_of_both (fault ∷ some) more none others = (none.0, none_of_both some more none.1 others)
+use Rattle.causal_base.specs.Refusals.{IsFirst, ArePassed}
+use Rattle.raw_reader.specs.Causes.{id_faults, id_cause, mate_faults, end_faults, Fields, AreFields, HasType, IsFieldsCause, IsCause}
 
 -- the fault that is found of an id is its first
 pub id_first : (traces : ℕ) (bytes : List ℕ) (fault : IdFault) → HasIdFault bytes traces fault → IsFirst (id_faults traces bytes) (id_cause fault)
 id_first traces bytes id_fault.BadId fault = inl (fault, refl)
-id_first traces bytes id_fault.NoTrace fault = inr ((λ no_id. no_id fault.trace fault.number fault.is_id), inl (fault, refl))
+id_first traces bytes id_fault.NoTrace fault = inr ((λ error no_id. no_id.0 fault.trace fault.number fault.is_id), inl (fault, refl))
 id_first traces bytes id_fault.BadNumber fault = inr (
-  (λ no_id. no_id fault.trace fault.number fault.is_id),
+  (λ error no_id. no_id.0 fault.trace fault.number fault.is_id),
   inr (
-    (λ other. let same = id_once bytes fault.trace fault.number other.trace other.number fault.is_id other.is_id in let among = fault.among in let beyond = other.beyond in omega (arith, same.0, among, beyond)),
+    (λ error none. let other = none.0 in let same = id_once bytes fault.trace fault.number other.trace other.number fault.is_id other.is_id in let among = fault.among in let beyond = other.beyond in omega (arith, same.0, among, beyond)),
     inl (fault, refl),
   ),
 )
 
 -- an id in range has no fault
-pub id_has_none : (traces : ℕ) (bytes : List ℕ) (id : EventId) → IsIdInRange bytes traces id → NoneHolds (id_faults traces bytes)
-id_has_none traces bytes id range =
-    (fault_excludes bytes traces id id_fault.BadId range, (fault_excludes bytes traces id id_fault.NoTrace range, (fault_excludes bytes traces id id_fault.BadNumber range, tt)))
-
--- what is wrong with the id that is named is what is wrong with the mate
-pub named_first : (traces : ℕ) (kind : Kind) (mate : List ℕ) (cause : LineCause) → NamesAnother kind → mate ≢ codes "-" → IsFirst (id_faults traces mate) cause → IsFirst (mate_faults traces kind mate) cause
-named_first traces kind mate cause names named first = inr ((λ given. given.0 names), inr ((λ missing. named missing.1), later first))
-  where
-    later : IsFirst (id_faults traces mate) cause → IsFirst ((BadId, NamesAnother kind × IsNoId mate) ∷ (NoTrace, NamesAnother kind × NamesNoTrace mate traces) ∷ (BadNumber, NamesAnother kind × NamesNoNumber mate traces) ∷ []) cause
-    later first = elim first [
-      | inl bad ↦ inl ((names, bad.0), bad.1)
-      | inr rest ↦ inr (
-        (λ bad. rest.0 bad.1),
-        elim rest.1 [
-          | inl none ↦ inl ((names, none.0), none.1)
-          | inr more ↦ inr ((λ none. more.0 none.1), elim more.1 [ inl number ↦ inl ((names, number.0), number.1) | inr nothing ↦ absurd nothing.1 ])
-        ],
-      )
-    ]
+pub id_has_none : (traces : ℕ) (bytes : List ℕ) (id : EventId) → IsIdInRange bytes traces id → ArePassed (id_faults traces bytes)
+id_has_none traces bytes id range = (
+  (λ error bad. fault_excludes bytes traces id id_fault.BadId range bad.0),
+  ((λ error bad. fault_excludes bytes traces id id_fault.NoTrace range bad.0), ((λ error bad. fault_excludes bytes traces id id_fault.BadNumber range bad.0), tt)),
+)
 
 -- a line whose fields aren't all there has no shape
 pub shape_cause : (types : TypeTable) (line : List ℕ) (fields : Fields) → IsSplit line fields.id fields.name fields.mate fields.time fields.text
@@ -103,24 +69,24 @@ later_cause types line fields id kind cause are in_range has first =
 
 -- a dash is no id
 pub dash_is_no_id : (trace number : ℕ) → IsId (codes "-") trace number → ⊥
-dash_is_no_id trace number is = no_id_uncut (codes "-") (All-cons (λ b. b ≡ 46 → ⊥) 45 [] (λ same. cc) (All-nil (λ b. b ≡ 46 → ⊥))) trace number is
+dash_is_no_id trace number is = no_id_unsplit (codes "-") (All-cons (λ b. b ≡ 46 → ⊥) 45 [] (λ same. cc) (All-nil (λ b. b ≡ 46 → ⊥))) trace number is
 
 -- a mate that is read has no fault
-pub mate_has_none : (traces : ℕ) (kind : Kind) (field : List ℕ) (mate : Option EventId) → IsSome mate ↔ NamesAnother kind → IfSome mate (IsIdInRange field traces) → IfNone mate (field ≡ codes "-") → NoneHolds (mate_faults traces kind field)
+pub mate_has_none : (traces : ℕ) (kind : Kind) (field : List ℕ) (mate : Option EventId) → IsSome mate ↔ NamesAnother kind → IfSome mate (IsIdInRange field traces) → IfNone mate (field ≡ codes "-") → ArePassed (mate_faults traces kind field)
 mate_has_none traces kind field None named in_range dash = (
-  (λ given. given.1 dash),
+  (λ error given. given.0.1 dash),
   (
-    (λ missing. let some = named.1 missing.0 in cc),
+    (λ error missing. let some = named.1 missing.0.0 in cc),
     (
-      (λ bad. let some = named.1 bad.0 in cc),
-      ((λ bad. let some = named.1 bad.0 in cc), ((λ bad. let some = named.1 bad.0 in cc), tt)),
+      (λ error bad. let some = named.1 bad.0.0 in cc),
+      ((λ error bad. let some = named.1 bad.0.0 in cc), ((λ error bad. let some = named.1 bad.0.0 in cc), tt)),
     ),
   ),
 )
 mate_has_none traces kind field (Some id) named in_range dash =
     let none = id_has_none traces field id in_range in (
-      (λ given. given.0 (named.0 refl)),
-      ((λ missing. no_dash missing.1), ((λ bad. none.0 bad.1), ((λ bad. none.1.0 bad.1), ((λ bad. none.1.1.0 bad.1), tt)))),
+      (λ error given. given.0.0 (named.0 refl)),
+      ((λ error missing. no_dash missing.0.1), ((λ error bad. none.0 error (bad.0.1, bad.1)), ((λ error bad. none.1.0 error (bad.0.1, bad.1)), ((λ error bad. none.1.1.0 error (bad.0.1, bad.1)), tt)))),
     )
   where
     no_dash : field ≡ codes "-" → ⊥
@@ -198,7 +164,7 @@ dash_where_none (Some id) = tt
 -- nothing is wrong with the fields of a spelling
 no_fields_cause : (types : TypeTable) (e : Event) (cause : LineCause) → IsTypeTable types → IsFit types e → IsFieldsCause types (fields_spelled types e) cause → ⊥
 no_fields_cause types e cause table fit wrong = elim wrong [
-  | inl id ↦ none_is_first (id_faults types.traces (id_text e.id)) cause (id_has_none types.traces (id_text e.id) e.id (id_in_text types e.id table.most_traces fit.id)) id
+  | inl id ↦ passed_first (id_faults types.traces (id_text e.id)) cause (id_has_none types.traces (id_text e.id) e.id (id_in_text types e.id table.most_traces fit.id)) id
   | inr rest ↦ elim rest.1 [
     | inl no_type ↦ no_type.0 e.type_no within refl
     | inr typed ↦
@@ -207,9 +173,9 @@ no_fields_cause types e cause table fit wrong = elim wrong [
         let kind : fit.kind ≡ typed.0 = cc in
         let mates = mate_has_none types.traces typed.0 (mate_text e.mate) e.mate (subst (λ k. IsSome e.mate ↔ NamesAnother k) kind fit.mate)
         (mate_in_text types e.mate table.most_traces fit.mate_in_range) (dash_where_none e.mate) in
-        let ends : NoneHolds (end_faults (decimal e.time) e.text) = ((λ no_number. no_number e.time (record { small = fit.time; spelled = refl })), ((λ long. let most = fit.text_length in omega (arith, long, most)), tt)) in
-        none_is_first (mate_faults types.traces typed.0 (mate_text e.mate) ++ end_faults (decimal e.time) e.text) cause
-        (none_of_both (mate_faults types.traces typed.0 (mate_text e.mate)) (end_faults (decimal e.time) e.text) mates ends) typed.2
+        let ends : ArePassed (end_faults (decimal e.time) e.text) = ((λ error no_number. no_number.0 e.time (record { small = fit.time; spelled = refl })), ((λ error long. let most = fit.text_length in let over = long.0 in omega (arith, over, most)), tt)) in
+        passed_first (mate_faults types.traces typed.0 (mate_text e.mate) ++ end_faults (decimal e.time) e.text) cause
+        (passed_both (mate_faults types.traces typed.0 (mate_text e.mate)) (end_faults (decimal e.time) e.text) mates ends) typed.2
   ]
 ]
   where

@@ -4,9 +4,11 @@ pub mod Spelled
 pub mod Exits
 pub mod FirstFaults
 pub mod ReaderSteps
+pub mod Waiting
 pub mod BatchesTaken
 pub mod LinesOnce
 pub mod FaultsOnce
 pub mod BatchesFit
 pub mod TextsOnce
-pub mod ClosedFronts
+pub mod ClosedPrefixes
+pub mod CallerLemmas

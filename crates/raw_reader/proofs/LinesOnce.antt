@@ -8,19 +8,16 @@ use Rattle.std.proofs.lemmas.List.Elements.{All-cons, All-nil, Contains-append_r
 use Rattle.causal_base.specs.declared.event.Event.{Event}
 use Rattle.causal_base.specs.declared.event_id.EventId.{EventId}
 use Rattle.causal_base.specs.Event.{IsFit, IsInRange}
-use Rattle.causal_base.specs.Fields.{IsCut}
+use Rattle.causal_base.specs.Fields.{SplitsOnce}
 use Rattle.causal_base.specs.Spelling.{IsId, IsName, is_letter, is_name_byte, id_text, mate_text, name_of, spelling, text_part}
 use Rattle.causal_base.specs.Types.{TypeTable}
 use Rattle.causal_base.specs.TypeTables.{IsTypeTable}
-use Rattle.causal_base.proofs.Decimals.{below_two_to_64}
-use Rattle.causal_base.proofs.Cuts.{cut_once, has_none}
-use Rattle.causal_base.proofs.Ids.{same_id}
-use Rattle.causal_base.proofs.IdTexts.{id_once, number_once}
-use Rattle.causal_base.proofs.Members.{Contains-here, Contains-cons, Contains-nil}
+use Rattle.causal_base.proofs.CallerLemmas.{below_two_to_64, split_in_one_way, has_none, same_id, id_once, number_once, Contains-here, Contains-cons, Contains-nil}
 use Rattle.raw_reader.specs.declared.cause.LineCause.{LineCause}
 use Rattle.raw_reader.specs.Causes.{IsCause}
-use Rattle.raw_reader.specs.Parts.{IsOneLine}
-use Rattle.raw_reader.specs.Texts.{Line, stop, says, line_bytes, IsFitLine, text_of_lines, most_line, IsTailCause}
+use Rattle.raw_reader.specs.EventParts.{IsOneLine}
+use Rattle.raw_reader.specs.declared.limits.TheConstants.{MOST_LINE}
+use Rattle.raw_reader.specs.Texts.{TextLine, stop, says, line_bytes, IsFitLine, text_of_lines, IsTailCause}
 use Rattle.raw_reader.proofs.FirstFaults.{spelled_has_no_cause, dash_is_no_id}
 use Rattle.raw_reader.proofs.Spelled.{has_type, none_equal, spelling_is_split, spelling_one_line}
 use Rattle.raw_reader.proofs.Splitting.{split_once}
@@ -58,31 +55,31 @@ no_stop : (types : TypeTable) (e : Event) → codes "." ≡ spelling types e →
 no_stop types e same = has_none 32 (codes ".") (id_text e.id) _ (All-cons (λ b. b ≡ 32 → ⊥) 46 [] (λ is. cc) (All-nil (λ b. b ≡ 32 → ⊥))) same
 
 -- good lines with the same bytes are one
-pub line_once : (types : TypeTable) (a b : Line) → IsTypeTable types → IsFitLine types a → IsFitLine types b → line_bytes types a ≡ line_bytes types b → a ≡ b
+pub line_once : (types : TypeTable) (a b : TextLine) → IsTypeTable types → IsFitLine types a → IsFitLine types b → line_bytes types a ≡ line_bytes types b → a ≡ b
 line_once types stop stop table fit_a fit_b same = refl
 line_once types stop (says e) table fit_a fit_b same = absurd (no_stop types e same)
 line_once types (says e) stop table fit_a fit_b same = absurd (no_stop types e (sym same))
 line_once types (says e) (says f) table fit_a fit_b same = ap says (event_once types e f table fit_a fit_b same)
 
 -- a good line has no line feed
-pub line_is_one : (types : TypeTable) (line : Line) → IsTypeTable types → IsFitLine types line → IsOneLine (line_bytes types line)
+pub line_is_one : (types : TypeTable) (line : TextLine) → IsTypeTable types → IsFitLine types line → IsOneLine (line_bytes types line)
 line_is_one types stop table fit has = elim (Contains-cons 46 [] 10 has) [ inl is ↦ cc | inr none ↦ absurd (Contains-nil 10 none) ]
 line_is_one types (says e) table fit has = spelling_one_line types e table fit has
 
 -- the bytes begin with a good line and its end
 pub record BeginsWell (types : TypeTable) (bytes : List ℕ) : Type 0 where
-  pub line : Line
+  pub line : TextLine
   pub fit : IsFitLine types line
   pub rest : List ℕ
   pub is : bytes ≡ line_bytes types line ++ 10 ∷ rest
 
 -- lines before others
-pub text_of_first : (types : TypeTable) (line : Line) (lines : List Line) (tail : List ℕ) → text_of_lines types (line ∷ lines) ++ tail ≡ line_bytes types line ++ 10 ∷ (text_of_lines types lines ++ tail)
+pub text_of_first : (types : TypeTable) (line : TextLine) (lines : List TextLine) (tail : List ℕ) → text_of_lines types (line ∷ lines) ++ tail ≡ line_bytes types line ++ 10 ∷ (text_of_lines types lines ++ tail)
 text_of_first types line lines tail =
     append_assoc (line_bytes types line ++ 10 ∷ []) (text_of_lines types lines) tail ∙ append_assoc (line_bytes types line) (10 ∷ []) (text_of_lines types lines ++ tail)
 
 -- a text is good lines and a tail that doesn't begin with one, in one way
-pub lines_once : (types : TypeTable) → IsTypeTable types → (lines others : List Line) (tail rest : List ℕ) → AllByRecursion (IsFitLine types) lines → AllByRecursion (IsFitLine types) others
+pub lines_once : (types : TypeTable) → IsTypeTable types → (lines others : List TextLine) (tail rest : List ℕ) → AllByRecursion (IsFitLine types) lines → AllByRecursion (IsFitLine types) others
     → text_of_lines types lines ++ tail ≡ text_of_lines types others ++ rest → (BeginsWell types tail → ⊥) → (BeginsWell types rest → ⊥) → (lines ≡ others) × (tail ≡ rest)
 lines_once types table [] [] tail rest fit fits same ends other_ends = (refl, same)
 lines_once types table [] (b ∷ others) tail rest fit fits same ends other_ends =
@@ -91,9 +88,9 @@ lines_once types table (a ∷ lines) [] tail rest fit fits same ends other_ends 
     absurd (other_ends (record { line = a; fit = fit.0; rest = text_of_lines types lines ++ tail; is = sym same ∙ text_of_first types a lines tail }))
 lines_once types table (a ∷ lines) (b ∷ others) tail rest fit fits same ends other_ends =
     let bytes = text_of_lines types (a ∷ lines) ++ tail in
-    let one : IsCut 10 bytes (line_bytes types a) (text_of_lines types lines ++ tail) = record { whole = text_of_first types a lines tail; first = none_equal 10 (line_bytes types a) (line_is_one types a table fit.0) } in
-    let other : IsCut 10 bytes (line_bytes types b) (text_of_lines types others ++ rest) = record { whole = same ∙ text_of_first types b others rest; first = none_equal 10 (line_bytes types b) (line_is_one types b table fits.0) } in
-    let cuts = cut_once 10 bytes (line_bytes types a) (text_of_lines types lines ++ tail) (line_bytes types b) (text_of_lines types others ++ rest) one other in
+    let one : SplitsOnce 10 bytes (line_bytes types a) (text_of_lines types lines ++ tail) = record { whole = text_of_first types a lines tail; first = none_equal 10 (line_bytes types a) (line_is_one types a table fit.0) } in
+    let other : SplitsOnce 10 bytes (line_bytes types b) (text_of_lines types others ++ rest) = record { whole = same ∙ text_of_first types b others rest; first = none_equal 10 (line_bytes types b) (line_is_one types b table fits.0) } in
+    let cuts = split_in_one_way 10 bytes (line_bytes types a) (text_of_lines types lines ++ tail) (line_bytes types b) (text_of_lines types others ++ rest) one other in
     let first = line_once types a b table fit.0 fits.0 cuts.0 in
     let more = lines_once types table lines others tail rest fit.1 fits.1 cuts.1 ends other_ends in
     (ap (λ l. l ∷ lines) first ∙ ap (λ ls. b ∷ ls) more.0, more.1)
@@ -122,7 +119,7 @@ text_short [] few = omega arith
 text_short (c ∷ cs) few = omega (arith, few)
 
 -- a good line isn't too long
-line_is_short : (types : TypeTable) (line : Line) → IsTypeTable types → IsFitLine types line → length (line_bytes types line) ≤ most_line
+line_is_short : (types : TypeTable) (line : TextLine) → IsTypeTable types → IsFitLine types line → length (line_bytes types line) ≤ MOST_LINE
 line_is_short types stop table fit = omega arith
 line_is_short types (says e) table fit =
     let id = id_short types e.id table.most_traces fit.id in
@@ -141,15 +138,15 @@ pub cause_ends : (types : TypeTable) (size : ℕ) (tail : List ℕ) (cause : Lin
 cause_ends types size tail cause table wrong well = elim wrong [
   | inr still ↦ still.0 (subst (λ bytes. Contains bytes 10) (sym well.is) (Contains-append_right (line_bytes types well.line) (10 ∷ well.rest) 10 (Contains-here 10 well.rest)))
   | inl ended ↦
-      let one : IsCut 10 tail ended.0 ended.1 = record { whole = ended.2; first = none_equal 10 ended.0 ended.3 } in
-      let other : IsCut 10 tail (line_bytes types well.line) well.rest = record { whole = well.is; first = none_equal 10 (line_bytes types well.line) (line_is_one types well.line table well.fit) } in
-      let same = (cut_once 10 tail ended.0 ended.1 (line_bytes types well.line) well.rest one other).0 in
+      let one : SplitsOnce 10 tail ended.0 ended.1 = record { whole = ended.2; first = none_equal 10 ended.0 ended.3 } in
+      let other : SplitsOnce 10 tail (line_bytes types well.line) well.rest = record { whole = well.is; first = none_equal 10 (line_bytes types well.line) (line_is_one types well.line table well.fit) } in
+      let same = (split_in_one_way 10 tail ended.0 ended.1 (line_bytes types well.line) well.rest one other).0 in
       elim ended.4 [
         | inl long ↦ (let size_is = ap length same in let short = line_is_short types well.line table well.fit in let over = long.0 in omega (arith, size_is, short, over))
         | inr bad ↦ good_has_no_cause well.line well.fit same bad.1 bad.2
       ]
 ]
   where
-    good_has_no_cause : (line : Line) → IsFitLine types line → {bytes : List ℕ} → bytes ≡ line_bytes types line → bytes ≢ codes "." → IsCause types bytes cause → ⊥
+    good_has_no_cause : (line : TextLine) → IsFitLine types line → {bytes : List ℕ} → bytes ≡ line_bytes types line → bytes ≢ codes "." → IsCause types bytes cause → ⊥
     good_has_no_cause stop fit is other bad = other is
     good_has_no_cause (says e) fit {bytes} is other bad = spelled_has_no_cause types bytes e cause table fit is bad

@@ -9,7 +9,7 @@ use Rattle.causal_base.specs.Event.{IsFit}
 use Rattle.causal_base.specs.Spelling.{id_text, mate_text, name_of, spelling, text_part}
 use Rattle.causal_base.specs.Types.{TypeTable, kind_of}
 use Rattle.causal_base.specs.TypeTables.{IsTypeTable}
-use Rattle.raw_reader.specs.Parts.{IsOneLine}
+use Rattle.raw_reader.specs.EventParts.{IsOneLine}
 use Rattle.raw_reader.specs.Splits.{IsSplit}
 use Rattle.raw_reader.proofs.Visible.{IsVisible, decimal_visible, id_visible, mate_visible, name_visible, visible_lacks}
 

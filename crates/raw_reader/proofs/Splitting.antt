@@ -1,7 +1,7 @@
 use Rattle.std.proofs.Common.{◌≡◌, ℕ, List, [], ◌∷◌, ◌++◌, length, All, refl, sym, ap, subst, ◌∙◌, append-nil, arith}
-use Rattle.causal_base.specs.Fields.{IsCut}
+use Rattle.causal_base.specs.Fields.{SplitsOnce}
 use Rattle.causal_base.specs.Spelling.{text_part}
-use Rattle.causal_base.proofs.Cuts.{cut_once, uncut}
+use Rattle.causal_base.proofs.CallerLemmas.{split_in_one_way, unsplit}
 use Rattle.raw_reader.specs.Splits.{IsSplit, IsTimeAndText}
 
 -- a line without a text is its time
@@ -12,24 +12,24 @@ one_word_alone : (bytes time : List ℕ) → IsTimeAndText bytes time [] → All
 one_word_alone bytes time split = subst (All (λ b. b ≡ 32 → ⊥)) (sym (alone bytes time split)) split.one_word
 
 -- a time with a text behind it is cut at the space between them
-pub cut_at_text : (bytes time : List ℕ) (c : ℕ) (cs : List ℕ) → IsTimeAndText bytes time (c ∷ cs) → IsCut 32 bytes time (c ∷ cs)
+pub cut_at_text : (bytes time : List ℕ) (c : ℕ) (cs : List ℕ) → IsTimeAndText bytes time (c ∷ cs) → SplitsOnce 32 bytes time (c ∷ cs)
 cut_at_text bytes time c cs split = record { whole = split.whole; first = split.one_word }
 
 -- a time and a text are written in one way
 pub time_and_text_once : (bytes time text other more : List ℕ) → IsTimeAndText bytes time text → IsTimeAndText bytes other more → (time ≡ other) × (text ≡ more)
 time_and_text_once bytes time [] other [] split same = (sym (alone bytes time split) ∙ alone bytes other same, refl)
 time_and_text_once bytes time [] other (c ∷ cs) split same =
-    absurd (uncut 32 bytes other (c ∷ cs) (one_word_alone bytes time split) (cut_at_text bytes other c cs same))
+    absurd (unsplit 32 bytes other (c ∷ cs) (one_word_alone bytes time split) (cut_at_text bytes other c cs same))
 time_and_text_once bytes time (c ∷ cs) other [] split same =
-    absurd (uncut 32 bytes time (c ∷ cs) (one_word_alone bytes other same) (cut_at_text bytes time c cs split))
+    absurd (unsplit 32 bytes time (c ∷ cs) (one_word_alone bytes other same) (cut_at_text bytes time c cs split))
 time_and_text_once bytes time (c ∷ cs) other (d ∷ ds) split same =
-    cut_once 32 bytes time (c ∷ cs) other (d ∷ ds) (cut_at_text bytes time c cs split) (cut_at_text bytes other d ds same)
+    split_in_one_way 32 bytes time (c ∷ cs) other (d ∷ ds) (cut_at_text bytes time c cs split) (cut_at_text bytes other d ds same)
 
 -- a space with nothing behind it is no text
-pub no_empty_text : (bytes front rest time text : List ℕ) → length rest ≡ 0 → IsCut 32 bytes front rest → IsTimeAndText bytes time text → ⊥
-no_empty_text bytes front rest time [] empty cut split = uncut 32 bytes front rest (one_word_alone bytes time split) cut
+pub no_empty_text : (bytes front rest time text : List ℕ) → length rest ≡ 0 → SplitsOnce 32 bytes front rest → IsTimeAndText bytes time text → ⊥
+no_empty_text bytes front rest time [] empty cut split = unsplit 32 bytes front rest (one_word_alone bytes time split) cut
 no_empty_text bytes front rest time (c ∷ cs) empty cut split =
-    let same = cut_once 32 bytes front rest time (c ∷ cs) cut (cut_at_text bytes time c cs split) in omega (arith, ap length same.1)
+    let same = split_in_one_way 32 bytes front rest time (c ∷ cs) cut (cut_at_text bytes time c cs split) in omega (arith, ap length same.1)
 
 -- what stands behind the third field of a line
 abbrev pub behind_mate : List ℕ → List ℕ → List ℕ
@@ -44,13 +44,13 @@ abbrev pub behind_id : List ℕ → List ℕ → List ℕ → List ℕ → List 
 behind_id name mate time text = name ++ 32 ∷ behind_name mate time text
 
 -- a line is cut behind its first field, its rest behind the second, and that rest behind the third
-pub id_cut : (line id name mate time text : List ℕ) → IsSplit line id name mate time text → IsCut 32 line id (behind_id name mate time text)
+pub id_cut : (line id name mate time text : List ℕ) → IsSplit line id name mate time text → SplitsOnce 32 line id (behind_id name mate time text)
 id_cut line id name mate time text split = record { whole = split.whole; first = split.id_one_word }
 
-pub name_cut : (rest line id name mate time text : List ℕ) → rest ≡ behind_id name mate time text → IsSplit line id name mate time text → IsCut 32 rest name (behind_name mate time text)
+pub name_cut : (rest line id name mate time text : List ℕ) → rest ≡ behind_id name mate time text → IsSplit line id name mate time text → SplitsOnce 32 rest name (behind_name mate time text)
 name_cut rest line id name mate time text is_rest split = record { whole = is_rest; first = split.name_one_word }
 
-pub mate_cut : (rest line id name mate time text : List ℕ) → rest ≡ behind_name mate time text → IsSplit line id name mate time text → IsCut 32 rest mate (behind_mate time text)
+pub mate_cut : (rest line id name mate time text : List ℕ) → rest ≡ behind_name mate time text → IsSplit line id name mate time text → SplitsOnce 32 rest mate (behind_mate time text)
 mate_cut rest line id name mate time text is_rest split = record { whole = is_rest; first = split.mate_one_word }
 
 -- what is left is the time and the text
@@ -58,17 +58,17 @@ pub time_left : (rest line id name mate time text : List ℕ) → rest ≡ behin
 time_left rest line id name mate time text is_rest split = record { whole = is_rest; one_word = split.time_one_word }
 
 -- each cut of a line that was split gives the next field, and what stands behind it
-pub after_id : (front rest line id name mate time text : List ℕ) → IsCut 32 line front rest → IsSplit line id name mate time text → (front ≡ id) × (rest ≡ behind_id name mate time text)
+pub after_id : (front rest line id name mate time text : List ℕ) → SplitsOnce 32 line front rest → IsSplit line id name mate time text → (front ≡ id) × (rest ≡ behind_id name mate time text)
 after_id front rest line id name mate time text cut split =
-    cut_once 32 line front rest id (behind_id name mate time text) cut (id_cut line id name mate time text split)
+    split_in_one_way 32 line front rest id (behind_id name mate time text) cut (id_cut line id name mate time text split)
 
-pub after_name : (front more rest line id name mate time text : List ℕ) → IsCut 32 rest front more → rest ≡ behind_id name mate time text → IsSplit line id name mate time text → (front ≡ name) × (more ≡ behind_name mate time text)
+pub after_name : (front more rest line id name mate time text : List ℕ) → SplitsOnce 32 rest front more → rest ≡ behind_id name mate time text → IsSplit line id name mate time text → (front ≡ name) × (more ≡ behind_name mate time text)
 after_name front more rest line id name mate time text cut is_rest split =
-    cut_once 32 rest front more name (behind_name mate time text) cut (name_cut rest line id name mate time text is_rest split)
+    split_in_one_way 32 rest front more name (behind_name mate time text) cut (name_cut rest line id name mate time text is_rest split)
 
-pub after_mate : (front more rest line id name mate time text : List ℕ) → IsCut 32 rest front more → rest ≡ behind_name mate time text → IsSplit line id name mate time text → (front ≡ mate) × (more ≡ behind_mate time text)
+pub after_mate : (front more rest line id name mate time text : List ℕ) → SplitsOnce 32 rest front more → rest ≡ behind_name mate time text → IsSplit line id name mate time text → (front ≡ mate) × (more ≡ behind_mate time text)
 after_mate front more rest line id name mate time text cut is_rest split =
-    cut_once 32 rest front more mate (behind_mate time text) cut (mate_cut rest line id name mate time text is_rest split)
+    split_in_one_way 32 rest front more mate (behind_mate time text) cut (mate_cut rest line id name mate time text is_rest split)
 
 -- The fields of one split are those of another.
 pub record SameFields (id name mate time text id' name' mate' time' text' : List ℕ) : Type 0 where

@@ -9,7 +9,7 @@ use Rattle.causal_base.specs.declared.event_id.EventId.{EventId}
 use Rattle.causal_base.specs.Event.{IsInRange as IsIdInRange}
 use Rattle.causal_base.specs.Spelling.{IsName, is_letter, is_name_byte, id_text, mate_text, stop_between}
 use Rattle.causal_base.specs.Types.{TypeTable}
-use Rattle.causal_base.proofs.Decimals.{own_digits, below_two_to_64}
+use Rattle.causal_base.proofs.CallerLemmas.{own_digits, below_two_to_64}
 
 -- every byte is above the space, as in each field of a line but the text
 abbrev pub IsVisible : List ℕ → Type 0

@@ -2,31 +2,23 @@ use Rattle.std.specs.Prelude.{◌≡◌, ◌≢◌, ◌<◌, ◌⊎◌, ℕ, Lis
 use Rattle.causal_base.specs.declared.fields.IdFault.{IdFault}
 use Rattle.causal_base.specs.declared.fields.IdFault.TheVariants as id_fault
 use Rattle.causal_base.specs.declared.kind.Kind.{Kind}
+use Rattle.causal_base.specs.declared.limits.TheConstants.{MOST_TEXT}
 use Rattle.causal_base.specs.Event.{NamesAnother}
 use Rattle.causal_base.specs.Fields.{IsNoId, NamesNoTrace, NamesNoNumber}
+use Rattle.causal_base.specs.Refusals.{Refusals, refuses, IsFirst, ArePassed}
 use Rattle.causal_base.specs.Spelling.{IsNumber, name_of}
 use Rattle.causal_base.specs.Types.{TypeTable, kind_of}
 use Rattle.raw_reader.specs.declared.cause.LineCause.{LineCause}
 use Rattle.raw_reader.specs.declared.cause.LineCause.TheVariants.{Shape, BadId, NoTrace, BadNumber, NoType, MateGiven, MateMissing, BadTime, LongText}
 use Rattle.raw_reader.specs.Splits.{IsSplit}
 
--- faults, each with its cause, in the order in which they count
-abbrev pub Faults : Type 1
-Faults = List (LineCause × Type 0)
-
--- the cause is that of the first fault that holds
-abbrev pub IsFirst : Faults → LineCause → Type 0
-IsFirst [] cause = ⊥
-IsFirst (fault ∷ faults) cause = (fault.1 × (fault.0 ≡ cause)) ⊎ ((fault.1 → ⊥) × IsFirst faults cause)
-
--- none of the faults holds
-abbrev pub NoneHolds : Faults → Type 0
-NoneHolds [] = Unit {0}
-NoneHolds (fault ∷ faults) = (fault.1 → ⊥) × NoneHolds faults
-
 -- what may be wrong with an id
-abbrev pub id_faults : ℕ → List ℕ → Faults
-id_faults traces id = (BadId, IsNoId id) ∷ (NoTrace, NamesNoTrace id traces) ∷ (BadNumber, NamesNoNumber id traces) ∷ []
+abbrev pub id_faults : ℕ → List ℕ → Refusals LineCause
+id_faults traces id =
+    refuses (IsNoId id) BadId
+    ∷ refuses (NamesNoTrace id traces) NoTrace
+    ∷ refuses (NamesNoNumber id traces) BadNumber
+    ∷ []
 
 -- the cause of each fault of an id
 abbrev pub id_cause : IdFault → LineCause
@@ -35,18 +27,21 @@ id_cause id_fault.NoTrace = NoTrace
 id_cause id_fault.BadNumber = BadNumber
 
 -- what may be wrong with what an event of this kind names
-abbrev pub mate_faults : ℕ → Kind → List ℕ → Faults
+abbrev pub mate_faults : ℕ → Kind → List ℕ → Refusals LineCause
 mate_faults traces kind mate =
-    (MateGiven, (¬ NamesAnother kind) × (mate ≢ codes "-"))
-    ∷ (MateMissing, NamesAnother kind × (mate ≡ codes "-"))
-    ∷ (BadId, NamesAnother kind × IsNoId mate)
-    ∷ (NoTrace, NamesAnother kind × NamesNoTrace mate traces)
-    ∷ (BadNumber, NamesAnother kind × NamesNoNumber mate traces)
+    refuses ((¬ NamesAnother kind) × (mate ≢ codes "-")) MateGiven
+    ∷ refuses (NamesAnother kind × (mate ≡ codes "-")) MateMissing
+    ∷ refuses (NamesAnother kind × IsNoId mate) BadId
+    ∷ refuses (NamesAnother kind × NamesNoTrace mate traces) NoTrace
+    ∷ refuses (NamesAnother kind × NamesNoNumber mate traces) BadNumber
     ∷ []
 
 -- what may be wrong with a time and a text
-abbrev pub end_faults : List ℕ → List ℕ → Faults
-end_faults time text = (BadTime, (n : ℕ) → IsNumber time n → ⊥) ∷ (LongText, 200 < length text) ∷ []
+abbrev pub end_faults : List ℕ → List ℕ → Refusals LineCause
+end_faults time text =
+    refuses ((n : ℕ) → IsNumber time n → ⊥) BadTime
+    ∷ refuses (MOST_TEXT < length text) LongText
+    ∷ []
 
 -- the fields of a line, and the text behind them
 pub record Fields : Type 0 where
@@ -75,16 +70,18 @@ pub record HasType (types : TypeTable) (name : List ℕ) (kind : Kind) : Type 0 
 abbrev pub IsNoType : TypeTable → List ℕ → Type 0
 IsNoType types name = (type_no : ℕ) → type_no < length types.rows → name_of types type_no ≢ name
 
--- What is wrong with the fields of a line: with the id, then with the type, and then, by the kind of the type, with what the
--- event names, the time and the text.
+-- What is wrong with the fields of a line: with the id, then with the type, and then, by the kind
+-- of the type, with what the event names, the time and the text.
 abbrev pub IsFieldsCause : TypeTable → Fields → LineCause → Type 0
 IsFieldsCause types fields cause = IsFirst (id_faults types.traces fields.id) cause
-    ⊎ (NoneHolds (id_faults types.traces fields.id)
+    ⊎ (ArePassed (id_faults types.traces fields.id)
     × ((IsNoType types fields.name × (cause ≡ NoType))
     ⊎ ((kind : Kind) × HasType types fields.name kind
-    × IsFirst (mate_faults types.traces kind fields.mate ++ end_faults fields.time fields.text) cause)))
+    × IsFirst (mate_faults types.traces kind fields.mate ++ end_faults fields.time fields.text)
+    cause)))
 
--- What is wrong with a line, ended and not too long, that isn't a full stop alone: its shape, or its fields.
+-- What is wrong with a line, ended and not too long, that isn't a full stop alone: its shape, or
+-- its fields.
 abbrev pub IsCause : TypeTable → List ℕ → LineCause → Type 0
 IsCause types line cause = (((fields : Fields) → AreFields line fields → ⊥) × (cause ≡ Shape))
     ⊎ ((fields : Fields) × AreFields line fields × IsFieldsCause types fields cause)

@@ -1,5 +1,5 @@
 pub mod Splits
-pub mod Parts
+pub mod EventParts
 pub mod Causes
 pub mod Texts
 pub mod ReaderState

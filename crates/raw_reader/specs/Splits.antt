@@ -6,7 +6,8 @@ pub record IsTimeAndText (bytes time text : List ℕ) : Type 0 where
   pub whole : bytes ≡ time ++ text_part text
   pub one_word : All (λ byte. byte ≢ 32) time
 
--- The line is these four fields without a space, with one space between them, and the text behind them.
+-- The line is these four fields without a space, with one space between them, and the text behind
+-- them.
 pub record IsSplit (line id name mate time text : List ℕ) : Type 0 where
   pub whole : line ≡ id ++ 32 ∷ (name ++ 32 ∷ (mate ++ 32 ∷ (time ++ text_part text)))
   pub id_one_word : All (λ byte. byte ≢ 32) id

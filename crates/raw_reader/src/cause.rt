@@ -3,19 +3,20 @@ ghost use Rattle.std.specs.Prelude.{◌≡◌};
 /// What is wrong with a line of events, the first of these that applies.
 #[derive(Clone, Copy, Debug, PartialEq, Eq)]
 pub enum LineCause {
-    /// The input has more than 1,073,741,824 bytes, and the line doesn't end within that many.
+    /// The input has more than `MOST_INPUT` bytes, and the line doesn't end within that many.
     TooLarge,
-    /// The line has more than 400 bytes.
+    /// The line has more than `MOST_LINE` bytes.
     LongLine,
     /// The input ends within the line.
     Unended,
-    /// The line isn't four fields with one space between them, and perhaps one more space and a text behind them.
+    /// The line isn't four fields with one space between them, and perhaps one more space and a
+    /// text behind them.
     Shape,
     /// The event's id, or the one that it names, isn't two numbers with a full stop between them.
     BadId,
     /// The trace of one of them is none of the traces.
     NoTrace,
-    /// The number of one of them isn't from 1 to 1,000,000.
+    /// The number of one of them isn't from 1 to `MOST_NUMBER`.
     BadNumber,
     /// The type is none of the types.
     NoType,
@@ -25,7 +26,7 @@ pub enum LineCause {
     MateMissing,
     /// The time isn't a number.
     BadTime,
-    /// The text has more than 200 bytes.
+    /// The text has more than `MOST_TEXT` bytes.
     LongText,
     /// Memory ran out.
     Oom,

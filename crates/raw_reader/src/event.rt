@@ -2,14 +2,14 @@ ghost use Rattle.std.specs.Prelude.{◌≡◌, IfOk, IfSome, IfNone};
 ghost use Rattle.causal_base.specs.declared.event.Event.{Event};
 ghost use Rattle.causal_base.specs.Event.{IsFit};
 ghost use Rattle.causal_base.specs.Spelling.{spelling};
-ghost use Rattle.raw_reader.specs.Parts.{IsOneLine, event_from};
+ghost use Rattle.raw_reader.specs.EventParts.{IsOneLine, event_from};
 
-use crate::parts::{Parts, parts_of};
+use crate::event_parts::{EventParts, parts_of};
 use causal_base::{Event, Text, Types};
 use std::alloc::{AllocError, Global};
 
-/// The fit event that the line spells, without a line feed at its end. None where it is no spelling of a fit event.
-/// The only error is that memory ran out.
+/// The fit event that the line spells, without a line feed at its end. None where it is no spelling
+/// of a fit event. The only error is that memory ran out.
 ///
 /// No fit event is spelled with a line feed, so a text of many lines may be cut at each.
 pub fn event_of(alloc: Global, line: &[u8], types: &Types) -> Result<Option<Event>, AllocError>
@@ -19,19 +19,17 @@ pub fn event_of(alloc: Global, line: &[u8], types: &Types) -> Result<Option<Even
         IsFit types.now e → line.now ≡ spelling types.now e → ⊥)) }
     ensures one_line { (e : Event) → IsFit types.now e → IsOneLine (spelling types.now e) }
 {
-    // Reading the number of traces shows that the types are a table.
-    let _traces = types.traces();
-    if line.contains(&b'\n') {
-        return Ok(None);
-    }
     let Ok(parts) = parts_of(line, types) else {
         return Ok(None);
     };
+    if line.contains(&b'\n') {
+        return Ok(None);
+    }
     Ok(Some(event_from_parts(alloc, &parts)?))
 }
 
 /// The event that has these parts.
-pub fn event_from_parts(alloc: Global, parts: &Parts<'_>) -> Result<Event, AllocError>
+pub fn event_from_parts(alloc: Global, parts: &EventParts<'_>) -> Result<Event, AllocError>
     ensures { IfOk result (λ e. e ≡ event_from parts.now) }
 {
     Ok(Event {

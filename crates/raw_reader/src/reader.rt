@@ -5,30 +5,22 @@ ghost use Rattle.causal_base.specs.Event.{IsFit};
 ghost use Rattle.causal_base.specs.Spelling.{spelling};
 ghost use Rattle.raw_reader.specs.Causes.{IsCause};
 ghost use Rattle.raw_reader.specs.declared.cause.LineError.{LineError};
-ghost use Rattle.raw_reader.specs.ReaderState.{StandsFor, StandsAtEnd};
-ghost use Rattle.raw_reader.specs.Texts.{most_text, most_in_batch, piece_of, batches_with, line_of};
+ghost use Rattle.raw_reader.specs.ReaderState.{HasRead, HasReadToEnd, KeepsWaiting};
+ghost use Rattle.raw_reader.specs.Texts.{piece_of, batches_with, line_of};
 
 use crate::batch::Batch;
 use crate::cause::{LineCause, LineError};
 use crate::event::event_from_parts;
-use crate::parts::parts_of;
+use crate::event_parts::parts_of;
+use crate::limits::{MOST_IN_BATCH, MOST_INPUT, MOST_LINE};
 use causal_base::{Event, Types};
 use std::alloc::{AllocError, Global};
 use std::collections::VecDeque;
 use std::marker::Model;
 use std::mem;
 
-/// How many bytes a text has at most.
-const MOST_TEXT: u64 = 1_073_741_824;
-
-/// How many bytes a line has at most.
-const MOST_LINE: usize = 400;
-
-/// How many events a batch has at most.
-const MOST_IN_BATCH: usize = 1_000;
-
-/// Reads events from text that comes in any pieces, and hands them out in batches. It keeps the line and the batch that
-/// are open, and the batches that wait.
+/// Reads events from text that comes in any pieces, and hands them out in batches. It keeps the
+/// line and the batch that are open, and the batches that wait.
 #[derive(Debug, Drop)]
 pub struct Reader<'a> {
     alloc: Global,
@@ -43,9 +35,9 @@ pub struct Reader<'a> {
 
 impl<'a> Model for Reader<'a> {
     ghost use Rattle.std.specs.Prelude.{◌≤◌, ◌<◌, length};
-    ghost use Rattle.raw_reader.specs.Parts.{IsOneLine};
+    ghost use Rattle.raw_reader.specs.EventParts.{IsOneLine};
     ghost use Rattle.raw_reader.specs.ReaderState.{ReaderState};
-    ghost use Rattle.raw_reader.specs.Texts.{most_text, most_line, most_in_batch};
+    ghost use Rattle.raw_reader.specs.declared.limits.TheConstants.{MOST_INPUT, MOST_LINE, MOST_IN_BATCH};
 
     ghost Value = { ReaderState };
 
@@ -59,16 +51,18 @@ impl<'a> Model for Reader<'a> {
       refusal = r.refusal;
     } };
 
-    ghost invariant = { λ r. (r.lines ≤ r.size) × (r.size ≤ most_text) × (length r.line.items ≤ most_line) × IsOneLine r.line.items
-        × (length r.begun.items < most_in_batch) };
+    ghost invariant = { λ r. (r.lines ≤ r.size) × (r.size ≤ MOST_INPUT)
+        × (length r.line.items ≤ MOST_LINE) × IsOneLine r.line.items
+        × (length r.begun.items < MOST_IN_BATCH) };
 }
 
 impl<'a> Reader<'a> {
     /// A reader that was fed nothing.
     pub fn new(alloc: Global, types: &'a Types) -> Reader<'a>
-        ensures empty { StandsFor result [] [] }
+        ensures empty { HasRead result [] [] }
         ensures going { result.refusal ≡ None }
         ensures types { result.types ≡ types.now }
+        ensures none_waits { result.waiting ≡ [] }
     {
         Reader {
             alloc,
@@ -82,12 +76,14 @@ impl<'a> Reader<'a> {
         }
     }
 
-    /// Takes the next piece of the text. It is refused from the first fault on, and once memory ran out: then a piece
-    /// changes nothing, and the refusal comes again.
+    /// Takes the next piece of the text. It is refused from the first fault on, and once memory ran
+    /// out: then a piece changes nothing, and the refusal comes again.
+    #[tactic(auto, using(crate::proofs::Waiting::keeping))]
     pub fn feed(&mut self, piece: &[u8]) -> Result<(), LineError>
         ensures types { self.new.types ≡ self.old.types }
-        ensures stands { (fed : List ℕ) (taken : List (List Event)) → StandsFor self.old fed taken
-            → StandsFor self.new (fed ++ piece.now) taken }
+        ensures stands { (fed : List ℕ) (taken : List (List Event)) → HasRead self.old fed taken
+            → HasRead self.new (fed ++ piece.now) taken }
+        ensures kept { KeepsWaiting self.old self.new }
         ensures again { (error : LineError) → self.old.refusal ≡ Some error → self.new ≡ self.old }
         ensures ok { OnOk result (self.new.refusal ≡ None) }
         ensures err { IfErr result (λ error. self.new.refusal ≡ Some error) }
@@ -98,12 +94,14 @@ impl<'a> Reader<'a> {
         self.answer()
     }
 
-    /// Takes the end of the text: it closes the batch that is begun, and is refused within a line. A refusal from before
-    /// comes again.
+    /// Takes the end of the text: it closes the batch that is begun, and is refused within a line.
+    /// A refusal from before comes again.
+    #[tactic(auto, using(crate::proofs::Waiting::keeps_same))]
     pub fn end(&mut self) -> Result<(), LineError>
         ensures types { self.new.types ≡ self.old.types }
-        ensures stands { (fed : List ℕ) (taken : List (List Event)) → StandsFor self.old fed taken
-            → StandsAtEnd self.new fed taken }
+        ensures stands { (fed : List ℕ) (taken : List (List Event)) → HasRead self.old fed taken
+            → HasReadToEnd self.new fed taken }
+        ensures kept { KeepsWaiting self.old self.new }
         ensures again { (error : LineError) → self.old.refusal ≡ Some error → self.new ≡ self.old }
         ensures ok { OnOk result (self.new.refusal ≡ None) }
         ensures err { IfErr result (λ error. self.new.refusal ≡ Some error) }
@@ -126,11 +124,13 @@ impl<'a> Reader<'a> {
     }
 
     /// Takes the end of the text where nothing was refused.
+    #[tactic(auto, using(crate::proofs::Waiting::keeps_same))]
     fn end_text(&mut self)
         requires { self.old.refusal ≡ None }
         ensures types { self.new.types ≡ self.old.types }
-        ensures stands { (fed : List ℕ) (taken : List (List Event)) → StandsFor self.old fed taken
-            → StandsAtEnd self.new fed taken }
+        ensures stands { (fed : List ℕ) (taken : List (List Event)) → HasRead self.old fed taken
+            → HasReadToEnd self.new fed taken }
+        ensures kept { KeepsWaiting self.old self.new }
     {
         if !self.line.is_empty() {
             self.refuse(LineCause::Unended);
@@ -146,26 +146,29 @@ impl<'a> Reader<'a> {
         ensures same { IfNone result (self.new ≡ self.old) }
         ensures rest { self.new ≡ record self.old { waiting = self.new.waiting } }
         ensures fit { IfSome result (λ batch. (fed : List ℕ) (taken : List (List Event))
-            → StandsFor self.old fed taken ⊎ StandsAtEnd self.old fed taken → AllByRecursion (IsFit self.old.types) batch) }
+            → HasRead self.old fed taken ⊎ HasReadToEnd self.old fed taken
+            → AllByRecursion (IsFit self.old.types) batch) }
         ensures stands { IfSome result (λ batch. (fed : List ℕ) (taken : List (List Event))
-            → StandsFor self.old fed taken → StandsFor self.new fed (taken ++ batch ∷ [])) }
+            → HasRead self.old fed taken → HasRead self.new fed (taken ++ batch ∷ [])) }
         ensures at_end { IfSome result (λ batch. (fed : List ℕ) (taken : List (List Event))
-            → StandsAtEnd self.old fed taken → StandsAtEnd self.new fed (taken ++ batch ∷ [])) }
+            → HasReadToEnd self.old fed taken → HasReadToEnd self.new fed (taken ++ batch ∷ [])) }
     {
         self.waiting.pop_front()
     }
 
     /// Takes one byte, unless there was a refusal.
+    #[tactic(auto, using(crate::proofs::Waiting::keeps_same))]
     fn take(&mut self, byte: u8)
         ensures types { self.new.types ≡ self.old.types }
-        ensures stands { (fed : List ℕ) (taken : List (List Event)) → StandsFor self.old fed taken
-            → StandsFor self.new (fed ++ byte ∷ []) taken }
+        ensures stands { (fed : List ℕ) (taken : List (List Event)) → HasRead self.old fed taken
+            → HasRead self.new (fed ++ byte ∷ []) taken }
+        ensures kept { KeepsWaiting self.old self.new }
         ensures again { (error : LineError) → self.old.refusal ≡ Some error → self.new ≡ self.old }
     {
         if self.refusal.is_some() {
             return;
         }
-        if self.size == MOST_TEXT {
+        if self.size == MOST_INPUT {
             self.refuse(LineCause::TooLarge);
         } else if byte == b'\n' {
             self.end_line();
@@ -179,12 +182,14 @@ impl<'a> Reader<'a> {
     }
 
     /// Takes the line feed that ends a line, and what the line says.
+    #[tactic(auto, using(crate::proofs::Waiting::keeps_same))]
     fn end_line(&mut self)
         requires going { self.old.refusal ≡ None }
-        requires room { self.old.size < most_text }
+        requires room { self.old.size < MOST_INPUT }
         ensures types { self.new.types ≡ self.old.types }
-        ensures stands { (fed : List ℕ) (taken : List (List Event)) → StandsFor self.old fed taken
-            → StandsFor self.new (fed ++ 10 ∷ []) taken }
+        ensures stands { (fed : List ℕ) (taken : List (List Event)) → HasRead self.old fed taken
+            → HasRead self.new (fed ++ 10 ∷ []) taken }
+        ensures kept { KeepsWaiting self.old self.new }
     {
         match self.line_read() {
             Ok(said) => {
@@ -202,9 +207,11 @@ impl<'a> Reader<'a> {
 
     /// What the line says: an event, or none where it closes the batch.
     fn line_read(&self) -> Result<Option<Event>, LineCause>
-        ensures some { IfOk result (λ said. IfSome said (λ e. IsFit self.now.types e × (self.now.tail ≡ spelling self.now.types e))) }
+        ensures some { IfOk result (λ said. IfSome said
+            (λ e. IsFit self.now.types e × (self.now.tail ≡ spelling self.now.types e))) }
         ensures none { IfOk result (λ said. IfNone said (self.now.tail ≡ codes ".")) }
-        ensures err { IfErr result (λ cause. (cause ≡ LineCause.Oom) ⊎ ((self.now.tail ≢ codes ".") × IsCause self.now.types self.now.tail cause)) }
+        ensures err { IfErr result (λ cause. (cause ≡ LineCause.Oom)
+            ⊎ ((self.now.tail ≢ codes ".") × IsCause self.now.types self.now.tail cause)) }
     {
         if self.line.as_slice() == b".".as_slice() {
             return Ok(None);
@@ -219,12 +226,18 @@ impl<'a> Reader<'a> {
         }
     }
 
-    /// Adds an event to the batch that is begun, and closes it at its thousandth, or where there is none.
+    /// Adds an event to the batch that is begun, and closes it once it is full, or where there is
+    /// no event.
     fn add(&mut self, said: Option<Event>) -> Result<(), AllocError>
         ensures ok { OnOk result (record { closed = self.new.waiting; begun = self.new.begun }
-            ≡ batches_with (record { closed = self.old.waiting; begun = self.old.begun }) (line_of said)) }
+            ≡ batches_with (record { closed = self.old.waiting; begun = self.old.begun })
+            (line_of said)) }
         ensures err { OnErr result (self.new.waiting ≡ self.old.waiting) }
-        ensures rest { self.new ≡ record self.old { waiting = self.new.waiting; begun = self.new.begun } }
+        ensures rest { self.new ≡ record self.old {
+          waiting = self.new.waiting;
+          begun
+              = self.new.begun;
+        } }
     {
         let mut events = mem::replace(&mut self.begun, Vec::new(self.alloc));
         if let Some(event) = said {
@@ -239,8 +252,9 @@ impl<'a> Reader<'a> {
 
     /// Hands out these events as a batch, if there are any.
     fn close(&mut self, events: Vec<Event>) -> Result<(), AllocError>
-        requires { length events.items ≤ most_in_batch }
-        ensures ok { OnOk result (self.new ≡ record self.old { waiting = self.old.waiting ++ piece_of events.items }) }
+        requires { length events.items ≤ MOST_IN_BATCH }
+        ensures ok { OnOk result (self.new ≡ record self.old
+            { waiting = self.old.waiting ++ piece_of events.items }) }
         ensures err { OnErr result (self.new ≡ self.old) }
     {
         if events.is_empty() {
@@ -252,7 +266,11 @@ impl<'a> Reader<'a> {
 
     /// Refuses the line from now on. The batch that is begun is lost.
     fn refuse(&mut self, cause: LineCause)
-        ensures { self.new ≡ record self.old { begun = []; refusal = Some (record { line = self.old.lines + 1; cause = cause }) } }
+        ensures { self.new ≡ record self.old {
+          begun = [];
+          refusal = Some
+              (record { line = self.old.lines + 1; cause = cause });
+        } }
     {
         self.begun.clear();
         self.refusal = Some(LineError {

@@ -1,7 +1,7 @@
 ghost use Rattle.std.specs.Prelude.{ℕ, List, IfSome, IfNone};
 ghost use Rattle.raw_reader.specs.Splits.{IsSplit, IsTimeAndText};
 
-use causal_base::cut;
+use causal_base::split_once;
 
 /// The five fields of a line as they are written. The text is empty where the line has none.
 #[derive(Drop)]
@@ -13,17 +13,17 @@ pub struct Split<'a> {
     pub text: &'a [u8],
 }
 
-/// The fields of a line, or none where it isn't four fields with one space between them, and perhaps one more
-/// space with a text behind it.
+/// The fields of a line, or none where it isn't four fields with one space between them, and
+/// perhaps one more space with a text behind it.
 pub fn split_line(line: &[u8]) -> Option<Split<'_>>
     ensures found { IfSome result (λ split.
         IsSplit line.now split.id.now split.name.now split.mate.now split.time.now split.text.now) }
     ensures none { IfNone result ((id name mate time text : List ℕ) →
         IsSplit line.now id name mate time text → ⊥) }
 {
-    let (id, rest) = cut(line, b' ')?;
-    let (name, rest) = cut(rest, b' ')?;
-    let (mate, rest) = cut(rest, b' ')?;
+    let (id, rest) = split_once(line, b' ')?;
+    let (name, rest) = split_once(rest, b' ')?;
+    let (mate, rest) = split_once(rest, b' ')?;
     let (time, text) = time_and_text(rest)?;
     Some(Split {
         id,
@@ -34,13 +34,13 @@ pub fn split_line(line: &[u8]) -> Option<Split<'_>>
     })
 }
 
-/// A time, and the text behind the space after it, which is empty where there is no space. None where a space
-/// has nothing behind it.
+/// A time, and the text behind the space after it, which is empty where there is no space. None
+/// where a space has nothing behind it.
 fn time_and_text(bytes: &[u8]) -> Option<(&[u8], &[u8])>
     ensures found { IfSome result (λ parts. IsTimeAndText bytes.now parts.0.now parts.1.now) }
     ensures none { IfNone result ((time text : List ℕ) → IsTimeAndText bytes.now time text → ⊥) }
 {
-    let Some((time, text)) = cut(bytes, b' ') else {
+    let Some((time, text)) = split_once(bytes, b' ') else {
         return Some((bytes, &[]));
     };
     if text.is_empty() {

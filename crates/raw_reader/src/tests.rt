@@ -307,11 +307,11 @@ fn reads_up_to_its_limits(rt: HostRuntime) -> Result<(), Fail> {
     Ok(())
 }
 
-/// How many lines of 211 bytes a text has within its most bytes, of which 171 are left.
+/// How many lines of 211 bytes a text has within its limit, of which 171 are left.
 const MOST_LINES: u64 = 5_088_823;
 
 #[test]
-fn takes_no_more_than_the_most_bytes(rt: HostRuntime) -> Result<(), Fail> {
+fn takes_no_more_than_the_limit(rt: HostRuntime) -> Result<(), Fail> {
     let alloc = rt.alloc();
     let types = Types::builtin(alloc, 7)?;
     let mut line = line_with_text(alloc, 200)?;

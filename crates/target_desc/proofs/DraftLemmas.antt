@@ -8,7 +8,7 @@ use Rattle.target_desc.specs.declared.draft.Draft.{Draft}
 use Rattle.target_desc.specs.declared.target_error.TargetError.{TargetError}
 use Rattle.target_desc.specs.Drafts.{IsDraftOf, AreDraftsOf, HasAt}
 use Rattle.target_desc.specs.Entries.{entry_refusals, type_refusals}
-use Rattle.target_desc.specs.Refusals.{IsFirst, ArePassed}
+use Rattle.causal_base.specs.Refusals.{IsFirst, ArePassed}
 use Rattle.target_desc.proofs.Places.{pushed_at}
 use Rattle.toml.specs.Data.{Data}
 

@@ -11,10 +11,11 @@ use Rattle.target_desc.specs.declared.target_error.TargetError.TheVariants.{Twic
 use Rattle.target_desc.specs.Document.{name_field}
 use Rattle.target_desc.specs.Drafts.{AreDraftsOf, AreDistinct, draft_name, HasAt, MateIsUnknown, MateIsNotMutual, AreMutualDrafts, MatesAgree, mate_refusals}
 use Rattle.target_desc.specs.Entries.{HasUnknownMate, HasNoMutualMate, AreMutual, IsRefusedEntry, entry_refusals, type_refusals}
-use Rattle.target_desc.specs.Refusals.{IsFirst, ArePassed, IsLeast}
+use Rattle.causal_base.specs.Refusals.{IsFirst, ArePassed, IsLeast}
 use Rattle.target_desc.proofs.EntryLemmas.{one_kind}
 use Rattle.target_desc.proofs.Places.{from_mapped, place_below}
-use Rattle.target_desc.proofs.RefusalLemmas.{passed_first, least_same}
+use Rattle.causal_base.proofs.CallerLemmas.{passed_first}
+use Rattle.target_desc.proofs.RefusalLemmas.{least_same}
 use Rattle.toml.specs.Data.{Data}
 
 module _ (entries : List Data) (drafts : List Draft) (are : AreDraftsOf entries drafts) where

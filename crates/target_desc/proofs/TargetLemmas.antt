@@ -9,14 +9,14 @@ use Rattle.target_desc.specs.Document.{traces_of, entries_of}
 use Rattle.target_desc.specs.Drafts.{AreDraftsOf, MatesAgree, mate_refusals}
 use Rattle.target_desc.specs.Entries.{type_refusals}
 use Rattle.target_desc.specs.Reading.{HasStray, IsTypeOf, IsTargetOf, refusals_of}
-use Rattle.target_desc.specs.Refusals.{Refusals, IsFirst, ArePassed}
+use Rattle.causal_base.specs.Refusals.{Refusals, IsFirst, ArePassed}
 use Rattle.target_desc.specs.Traces.{trace_refusals}
 use Rattle.target_desc.proofs.MateLemmas.{mate_first, types_pass}
-use Rattle.target_desc.proofs.RefusalLemmas.{first_of_some, first_of_more, passed_both}
+use Rattle.causal_base.proofs.CallerLemmas.{first_of_some, first_of_more, passed_both}
 use Rattle.toml.specs.Data.{Data, Members, string}
 
 -- a key that says nothing
-abbrev pub stray : Members → Refusals
+abbrev pub stray : Members → Refusals TargetError
 stray document = (λ error. HasStray document × (error ≡ StrayKey)) ∷ []
 
 module _ (document : Members) (traces entries : List Data) (are_traces : traces ≡ traces_of document) (are_entries : entries ≡ entries_of document) where

@@ -11,7 +11,7 @@ use Rattle.std.proofs.lemmas.Slice.Eq.{bytes_eq-Decides}
 use Rattle.causal_base.specs.Spelling.{IsName}
 use Rattle.target_desc.specs.declared.target_error.TargetError.TheVariants.{TwiceTrace}
 use Rattle.target_desc.specs.Names.{IsTwiceName}
-use Rattle.target_desc.specs.Refusals.{IsLeast, IsFirst, ArePassed}
+use Rattle.causal_base.specs.Refusals.{IsLeast, IsFirst, ArePassed}
 use Rattle.target_desc.specs.Target.{AreTraceNames}
 use Rattle.target_desc.specs.Traces.{IsBadTrace, IsTwiceTrace, trace_refusals}
 use Rattle.toml.specs.Data.{Data, string, as_str}

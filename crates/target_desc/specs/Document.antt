@@ -15,7 +15,8 @@ keys_of (member key value members) = key ∷ keys_of members
 
 -- the array under a key, which is empty where the key is missing or holds no array
 abbrev pub array_under : List ℕ → Members → List Data
-array_under key document = option_map_or list_of (option_and_then as_array (get_member key document)) []
+array_under key document = option_map_or list_of
+    (option_and_then as_array (get_member key document)) []
 
 -- the traces and the entries for types of a document
 abbrev pub traces_of : Members → List Data

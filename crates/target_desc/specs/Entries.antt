@@ -2,12 +2,13 @@
 use Rattle.std.specs.Prelude.{◌≡◌, ◌≢◌, ℕ, ◌<◌, List, [], ◌∷◌, length, None, Some, IsSome, Contains, codes}
 use Rattle.causal_base.specs.declared.kind.Kind.{Kind}
 use Rattle.causal_base.specs.declared.kind.Kind.TheVariants.{Unary, Send, Receive, Sync, Watch}
+use Rattle.causal_base.specs.declared.limits.TheConstants.{MOST_TYPES}
 use Rattle.causal_base.specs.Spelling.{IsName}
 use Rattle.causal_base.specs.TypeTables.{kind_of_mate}
 use Rattle.target_desc.specs.declared.target_error.TargetError.{TargetError}
 use Rattle.target_desc.specs.declared.target_error.TargetError.TheVariants.{NoTypes, TooManyTypes, BadType, TwiceType, BadKind, MateNeeded, MateGiven, MateUnknown, MateNotMutual}
 use Rattle.target_desc.specs.Document.{field, name_field, kind_field, mate_field, entry_keys}
-use Rattle.target_desc.specs.Refusals.{Refusals, IsFirst, ArePassed, IsLeast}
+use Rattle.causal_base.specs.Refusals.{Refusals, IsFirst, ArePassed, IsLeast}
 use Rattle.target_desc.specs.Traces.{count_told}
 use Rattle.toml.specs.Data.{Data}
 
@@ -37,14 +38,16 @@ IsBadKind entries i = (kind : Kind) → HasKind entries i kind → ⊥
 
 -- its kind mates, and its mate isn't a string
 abbrev pub NeedsMate : List Data → ℕ → Type 0
-NeedsMate entries i = (kind : Kind) × HasKind entries i kind × IsSome (kind_of_mate kind) × (mate_field entries i ≡ None)
+NeedsMate entries i = (kind : Kind) × HasKind entries i kind × IsSome (kind_of_mate kind)
+    × (mate_field entries i ≡ None)
 
 -- its kind doesn't mate, and it has a mate
 abbrev pub HasStrayMate : List Data → ℕ → Type 0
-HasStrayMate entries i = (kind : Kind) × HasKind entries i kind × (kind_of_mate kind ≡ None) × IsSome (field (codes "mate") entries i)
+HasStrayMate entries i = (kind : Kind) × HasKind entries i kind × (kind_of_mate kind ≡ None)
+    × IsSome (field (codes "mate") entries i)
 
 -- What is wrong with one entry.
-abbrev pub entry_refusals : List Data → ℕ → Refusals
+abbrev pub entry_refusals : List Data → ℕ → Refusals TargetError
 entry_refusals entries i =
     (λ error. IsBadType entries i × (error ≡ BadType i))
     ∷ (λ error. IsTwiceType entries i × (error ≡ TwiceType i))
@@ -64,7 +67,8 @@ abbrev pub HasUnknownMate : List Data → ℕ → Type 0
 HasUnknownMate entries i = (mate : List ℕ) × (mate_field entries i ≡ Some mate)
     × ((j : ℕ) → j < length entries → name_field entries j ≢ Some mate)
 
--- Its mate is the entry with this number, which has it as its mate and is of the kind that its kind mates with.
+-- Its mate is the entry with this number, which has it as its mate and is of the kind that its kind
+-- mates with.
 pub record AreMutual (entries : List Data) (i j : ℕ) : Type 0 where
   pub below : j < length entries
   pub forth : mate_field entries i ≡ name_field entries j
@@ -84,12 +88,15 @@ abbrev pub HasStrayKey : List Data → ℕ → Type 0
 HasStrayKey entries i = (key : List ℕ) × Contains (entry_keys entries i) key
     × (key ≢ codes "name") × (key ≢ codes "kind") × (key ≢ codes "mate")
 
--- There are none, or too many, or one has something wrong, or its mate isn't known, or isn't mutual.
-abbrev pub type_refusals : List Data → Refusals
+-- There are none, or too many, or one has something wrong, or its mate isn't known, or isn't
+-- mutual.
+abbrev pub type_refusals : List Data → Refusals TargetError
 type_refusals entries =
     (λ error. (entries ≡ []) × (error ≡ NoTypes))
-    ∷ (λ error. (64 < length entries) × (error ≡ TooManyTypes (count_told entries)))
+    ∷ (λ error. (MOST_TYPES < length entries) × (error ≡ TooManyTypes (count_told entries)))
     ∷ (λ error. (i : ℕ) × IsRefusedEntry entries i error)
-    ∷ (λ error. (i : ℕ) × IsLeast (length entries) (HasUnknownMate entries) i × (error ≡ MateUnknown i))
-    ∷ (λ error. (i : ℕ) × IsLeast (length entries) (HasNoMutualMate entries) i × (error ≡ MateNotMutual i))
+    ∷ (λ error. (i : ℕ) × IsLeast (length entries) (HasUnknownMate entries) i
+    × (error ≡ MateUnknown i))
+    ∷ (λ error. (i : ℕ) × IsLeast (length entries) (HasNoMutualMate entries) i
+    × (error ≡ MateNotMutual i))
     ∷ []

@@ -1,5 +1,4 @@
 pub mod Document
-pub mod Refusals
 pub mod Traces
 pub mod Entries
 pub mod Reading

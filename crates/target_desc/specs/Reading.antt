@@ -6,17 +6,14 @@ use Rattle.causal_base.specs.Spelling.{name_of}
 use Rattle.causal_base.specs.Types.{TypeTable, kind_of, mate_of}
 use Rattle.target_desc.specs.declared.target_error.TargetError.{TargetError}
 use Rattle.target_desc.specs.declared.target_error.TargetError.TheVariants.{TooLong, NotToml, StrayKey}
+use Rattle.target_desc.specs.declared.limits.TheConstants.{MOST_BYTES}
 use Rattle.target_desc.specs.Document.{traces_of, entries_of, keys_of, name_field, mate_field}
 use Rattle.target_desc.specs.Entries.{HasKind, HasStrayKey, type_refusals}
-use Rattle.target_desc.specs.Refusals.{Refusals, IsFirst, ArePassed}
+use Rattle.causal_base.specs.Refusals.{Refusals, IsFirst, ArePassed}
 use Rattle.target_desc.specs.Target.{TargetState}
 use Rattle.target_desc.specs.Traces.{trace_refusals}
 use Rattle.toml.specs.Data.{Data, string, Members}
 use Rattle.toml.specs.Parse.{parse_document}
-
--- how many bytes a target file has at most
-abbrev pub most_bytes : ℕ
-most_bytes = 1_048_576
 
 -- the bytes are the text of this TOML document
 pub record IsDocument (bytes : List ℕ) (document : Members) : Type 0 where
@@ -25,18 +22,20 @@ pub record IsDocument (bytes : List ℕ) (document : Members) : Type 0 where
 
 -- the document or an entry has a key that says nothing
 abbrev pub HasStray : Members → Type 0
-HasStray document = ((key : List ℕ) × Contains (keys_of document) key × (key ≢ codes "traces") × (key ≢ codes "event"))
+HasStray document = ((key : List ℕ) × Contains (keys_of document) key × (key ≢ codes "traces")
+    × (key ≢ codes "event"))
     ⊎ ((i : ℕ) × (i < length (entries_of document)) × HasStrayKey (entries_of document) i)
 
 -- What is wrong with a document: with its traces, then with its types, then with its keys.
-abbrev pub refusals_of : Members → Refusals
+abbrev pub refusals_of : Members → Refusals TargetError
 refusals_of document = trace_refusals (traces_of document) ++ type_refusals (entries_of document)
     ++ (λ error. HasStray document × (error ≡ StrayKey)) ∷ []
 
--- Why bytes are refused: there are too many, they are no document, or something is wrong with the document.
+-- Why bytes are refused: there are too many, they are no document, or something is wrong with the
+-- document.
 abbrev pub IsRefusedWith : List ℕ → TargetError → Type 0
-IsRefusedWith bytes error = ((most_bytes < length bytes) × (error ≡ TooLong))
-    ⊎ ((length bytes ≤ most_bytes)
+IsRefusedWith bytes error = ((MOST_BYTES < length bytes) × (error ≡ TooLong))
+    ⊎ ((length bytes ≤ MOST_BYTES)
     × ((((document : Members) → IsDocument bytes document → ⊥) × (error ≡ NotToml))
     ⊎ ((document : Members) × IsDocument bytes document × IsFirst (refusals_of document) error)))
 
@@ -53,11 +52,12 @@ pub record IsTargetOf (document : Members) (target : TargetState) : Type 0 where
   pub traces : traces_of document ≡ map string target.traces
   pub count_is : target.types.traces ≡ length target.traces
   pub rows : length target.types.rows ≡ length (entries_of document)
-  pub types : (i : ℕ) → i < length (entries_of document) → IsTypeOf (entries_of document) target.types i
+  pub types : (i : ℕ) → i < length (entries_of document)
+      → IsTypeOf (entries_of document) target.types i
 
 -- The bytes are a document that isn't refused, and the target is what it says.
 pub record IsReadAs (bytes : List ℕ) (target : TargetState) : Type 0 where
-  pub within : length bytes ≤ most_bytes
+  pub within : length bytes ≤ MOST_BYTES
   pub document : Members
   pub is_document : IsDocument bytes document
   pub good : ArePassed (refusals_of document)

@@ -8,4 +8,5 @@ is_stray key = not (bytes_eq key (codes "traces")) && not (bytes_eq key (codes "
 
 -- a key of an entry other than its three
 abbrev pub is_stray_field : List ℕ → Bool
-is_stray_field key = not (bytes_eq key (codes "name")) && (not (bytes_eq key (codes "kind")) && not (bytes_eq key (codes "mate")))
+is_stray_field key = not (bytes_eq key (codes "name"))
+    && (not (bytes_eq key (codes "kind")) && not (bytes_eq key (codes "mate")))

@@ -12,4 +12,5 @@ pub record TargetState : Type 0 where
 pub record AreTraceNames (names : List (List ℕ)) (count : ℕ) : Type 0 where
   pub count_is : length names ≡ count
   pub are_names : (i : ℕ) (name : List ℕ) → slice_get names i ≡ Some name → IsName name
-  pub distinct : (i j : ℕ) (name : List ℕ) → slice_get names i ≡ Some name → slice_get names j ≡ Some name → i ≡ j
+  pub distinct : (i j : ℕ) (name : List ℕ) → slice_get names i ≡ Some name
+      → slice_get names j ≡ Some name → i ≡ j

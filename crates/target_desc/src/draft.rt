@@ -3,19 +3,16 @@ ghost use Rattle.std.specs.Option.{option_map};
 ghost use Rattle.causal_base.specs.TypeTables.{kind_of_mate};
 ghost use Rattle.target_desc.specs.Drafts.{IsNamed, HasItsMate, IsDraftOf, AreDraftsOf, draft_name};
 ghost use Rattle.target_desc.specs.Entries.{kind_word, HasKind, NeedsMate, HasStrayMate, entry_refusals, type_refusals};
-ghost use Rattle.target_desc.specs.Refusals.{ArePassed, IsFirst};
+ghost use Rattle.causal_base.specs.Refusals.{ArePassed, IsFirst};
 ghost use Rattle.toml.specs.Data.{as_str, get};
 ghost use Rattle.target_desc.specs.Document.{mate_field};
 ghost use Rattle.toml.specs.View.{view};
 
 use crate::fields::{count_told, has_field, text_field};
 use crate::target_error::TargetError;
-use causal_base::{Kind, Text, is_name};
+use causal_base::{Kind, MOST_TYPES, Text, is_name};
 use std::alloc::{AllocError, Global};
 use toml::Value;
-
-/// How many types there are at most.
-const MOST_TYPES: usize = 64;
 
 /// One entry for a type, before its mate is known by its number.
 #[derive(Debug, Drop)]
@@ -28,10 +25,11 @@ pub struct Draft {
 /// The entries for types, or what is wrong with the first that isn't good alone.
 pub fn drafts_of(alloc: Global, entries: &[Value]) -> Result<Vec<Draft>, TargetError>
     ensures some { OnOk result (1 ≤ length entries.now) }
-    ensures most { OnOk result (length entries.now ≤ 64) }
+    ensures most { OnOk result (length entries.now ≤ MOST_TYPES) }
     ensures all { IfOk result (λ drafts. length drafts.items ≡ length entries.now) }
     ensures drafts { IfOk result (λ drafts. AreDraftsOf (map view entries.now) drafts.items) }
-    ensures err { IfErr result (λ error. (error ≡ TargetError.Oom) ⊎ IsFirst (type_refusals (map view entries.now)) error) }
+    ensures err { IfErr result (λ error. (error ≡ TargetError.Oom)
+        ⊎ IsFirst (type_refusals (map view entries.now)) error) }
 {
     if entries.is_empty() {
         return Err(TargetError::NoTypes);
@@ -49,7 +47,8 @@ pub fn drafts_of(alloc: Global, entries: &[Value]) -> Result<Vec<Draft>, TargetE
     Ok(drafts)
 }
 
-/// What the entry at this place says, or the first thing that is wrong with it beside the earlier ones.
+/// What the entry at this place says, or the first thing that is wrong with it beside the earlier
+/// ones.
 fn draft_of(
     alloc: Global,
     entries: &[Value],
@@ -57,12 +56,13 @@ fn draft_of(
     earlier: &[Draft],
 ) -> Result<Draft, TargetError>
     requires here { place < length entries.now }
-    requires few { length entries.now ≤ 64 }
+    requires few { length entries.now ≤ MOST_TYPES }
     requires count { length earlier.now ≡ place }
     requires drafts { AreDraftsOf (map view entries.now) earlier.now }
     ensures good { OnOk result (ArePassed (entry_refusals (map view entries.now) place)) }
     ensures says { IfOk result (IsDraftOf (map view entries.now) place) }
-    ensures err { IfErr result (λ error. (error ≡ TargetError.Oom) ⊎ IsFirst (entry_refusals (map view entries.now) place) error) }
+    ensures err { IfErr result (λ error. (error ≡ TargetError.Oom)
+        ⊎ IsFirst (entry_refusals (map view entries.now) place) error) }
 {
     let name = new_name(entries, place, earlier)?;
     let Some(kind) = kind_in(&entries[place]) else {
@@ -82,7 +82,7 @@ fn new_name<'a>(
     earlier: &[Draft],
 ) -> Result<&'a str, TargetError>
     requires here { place < length entries.now }
-    requires few { length entries.now ≤ 64 }
+    requires few { length entries.now ≤ MOST_TYPES }
     requires count { length earlier.now ≡ place }
     requires drafts { AreDraftsOf (map view entries.now) earlier.now }
     ensures named { IfOk result (λ name. IsNamed (map view entries.now) place name.now) }
@@ -100,18 +100,21 @@ fn new_name<'a>(
     }
 }
 
-/// The mate of the entry at this place, which is of this kind, or that it lacks one or has one that it shouldn't.
+/// The mate of the entry at this place, which is of this kind, or that it lacks one or has one that
+/// it shouldn't.
 fn own_mate(entries: &[Value], place: usize, kind: Kind) -> Result<Option<&str>, TargetError>
     requires here { place < length entries.now }
-    requires few { length entries.now ≤ 64 }
+    requires few { length entries.now ≤ MOST_TYPES }
     requires kind { HasKind (map view entries.now) place kind }
     ensures its { OnOk result (HasItsMate (map view entries.now) place kind) }
-    ensures mate { IfOk result (λ mate. mate_field (map view entries.now) place ≡ option_map (λ text. text.now) mate) }
-    ensures err { IfErr result (λ error. (NeedsMate (map view entries.now) place × (error ≡ TargetError.MateNeeded place))
+    ensures mate { IfOk result (λ mate. mate_field (map view entries.now) place ≡ option_map
+        (λ text. text.now) mate) }
+    ensures err { IfErr result (λ error. (NeedsMate (map view entries.now) place
+        × (error ≡ TargetError.MateNeeded place))
         ⊎ (HasStrayMate (map view entries.now) place × (error ≡ TargetError.MateGiven place))) }
 {
     let entry = &entries[place];
-    if !mates(kind) {
+    if !kind.mates() {
         return if has_field(entry, "mate") {
             Err(TargetError::MateGiven(place as u32))
         } else {
@@ -126,7 +129,8 @@ fn own_mate(entries: &[Value], place: usize, kind: Kind) -> Result<Option<&str>,
 
 /// A draft with copies of these texts.
 fn owned(alloc: Global, name: &str, kind: Kind, mate: Option<&str>) -> Result<Draft, AllocError>
-    ensures { IfOk result (λ draft. draft ≡ record { name = name.now; kind = kind; mate = option_map (λ text. text.now) mate.entry }) }
+    ensures { IfOk result (λ draft. draft ≡ record
+        { name = name.now; kind = kind; mate = option_map (λ text. text.now) mate.entry }) }
 {
     let name = Text::new(alloc, name.as_bytes())?;
     let mate = match mate {
@@ -138,9 +142,10 @@ fn owned(alloc: Global, name: &str, kind: Kind, mate: Option<&str>) -> Result<Dr
 
 /// The place of the first entry with this name, if there is one.
 pub fn place_of(drafts: &[Draft], name: &[u8]) -> Option<u8>
-    requires { length drafts.now ≤ 64 }
+    requires { length drafts.now ≤ MOST_TYPES }
     ensures named { IfSome result (λ place. draft_name drafts.now place ≡ Some name.now) }
-    ensures first { IfSome result (λ place. (j : ℕ) → j < place → draft_name drafts.now j ≢ Some name.now) }
+    ensures first { IfSome result (λ place. (j : ℕ) → j < place
+        → draft_name drafts.now j ≢ Some name.now) }
     ensures none { IfNone result ((j : ℕ) → draft_name drafts.now j ≢ Some name.now) }
 {
     for (place, draft) in drafts.iter().enumerate() {
@@ -153,8 +158,10 @@ pub fn place_of(drafts: &[Draft], name: &[u8]) -> Option<u8>
 
 /// The kind that an entry names, if it names one.
 fn kind_in(entry: &Value) -> Option<Kind>
-    ensures some { IfSome result (λ kind. option_and_then as_str (get (codes "kind") (view entry.now)) ≡ Some (kind_word kind)) }
-    ensures none { IfNone result ((kind : Kind) → option_and_then as_str (get (codes "kind") (view entry.now)) ≢ Some (kind_word kind)) }
+    ensures some { IfSome result (λ kind. option_and_then as_str
+        (get (codes "kind") (view entry.now)) ≡ Some (kind_word kind)) }
+    ensures none { IfNone result ((kind : Kind)
+        → option_and_then as_str (get (codes "kind") (view entry.now)) ≢ Some (kind_word kind)) }
 {
     match text_field(entry, "kind") {
         Some("unary") => Some(Kind::Unary),
@@ -163,15 +170,5 @@ fn kind_in(entry: &Value) -> Option<Kind>
         Some("sync") => Some(Kind::Sync),
         Some("watch") => Some(Kind::Watch),
         _ => None,
-    }
-}
-
-/// Whether types of this kind mate.
-fn mates(kind: Kind) -> bool
-    ensures { IsTrue result ↔ IsSome (kind_of_mate kind) }
-{
-    match kind {
-        Kind::Send | Kind::Receive | Kind::Sync => true,
-        Kind::Unary | Kind::Watch => false,
     }
 }

@@ -22,7 +22,8 @@ pub fn array_under<'a>(document: &'a Table, key: &str) -> &'a [Value]
 
 /// The string under a key of an entry, where it has one.
 pub fn text_field<'a>(entry: &'a Value, key: &str) -> Option<&'a str>
-    ensures { option_map (λ text. text.now) result ≡ option_and_then as_str (get key.now (view entry.now)) }
+    ensures { option_map (λ text. text.now) result ≡ option_and_then as_str
+        (get key.now (view entry.now)) }
 {
     match entry.get(key) {
         Some(value) => value.as_str(),

@@ -18,7 +18,8 @@ pub fn has_stray(document: &Table) -> bool
 
 /// Whether the document has a key that says nothing.
 fn has_stray_key(document: &Table) -> bool
-    ensures { result ≡ list_any (λ key. stray_keys.is_stray (string_bytes key)) (keys document.now) }
+    ensures { result ≡ list_any (λ key. stray_keys.is_stray (string_bytes key))
+        (keys document.now) }
 {
     document.keys().any(|key| is_stray(key.as_str()))
 }
@@ -32,7 +33,8 @@ fn is_stray(key: &str) -> bool
 
 /// Whether an entry has a key that says nothing.
 fn has_stray_entry_key(entries: &[Value]) -> bool
-    ensures { IsTrue result ↔ ((i : ℕ) × (i < length entries.now) × HasStrayKey (map view entries.now) i) }
+    ensures { IsTrue result ↔ ((i : ℕ) × (i < length entries.now)
+        × HasStrayKey (map view entries.now) i) }
 {
     for entry in entries {
         if is_stray_entry(entry) {
@@ -54,7 +56,8 @@ fn is_stray_entry(entry: &Value) -> bool
 
 /// Whether a key of an entry's table says nothing.
 fn has_stray_field(fields: &Table) -> bool
-    ensures { result ≡ list_any (λ key. stray_keys.is_stray_field (string_bytes key)) (keys fields.now) }
+    ensures { result ≡ list_any (λ key. stray_keys.is_stray_field (string_bytes key))
+        (keys fields.now) }
 {
     fields.keys().any(|key| is_stray_field(key.as_str()))
 }

@@ -12,11 +12,12 @@
 //! mate = "call"
 //! ```
 //!
-//! There are 1 to 256 traces and 1 to 64 types. A type's kind is `unary`, `send`, `receive`, `sync` or `watch`. A send and a
-//! receive type mate with each other, and a sync type with a sync type, perhaps itself; the others have no `mate`.
+//! There are 1 to 256 traces and 1 to 64 types. A type's kind is `unary`, `send`, `receive`, `sync`
+//! or `watch`. A send and a receive type mate with each other, and a sync type with a sync type,
+//! perhaps itself; the others have no `mate`.
 //!
-//! A target file is written by hand, so each mistake has its name and its place, and the first one counts. The
-//! mistakes are defined in `specs/` on the document that TOML reads the bytes as.
+//! A target file is written by hand, so each mistake has its name and its place, and the first one
+//! counts. The mistakes are defined in `specs/` on the document that TOML reads the bytes as.
 #![tactic(auto)]
 
 pub use target::Target;
@@ -25,6 +26,7 @@ pub use target_error::TargetError;
 mod draft;
 mod fields;
 mod keys;
+mod limits;
 mod mates;
 mod rows;
 mod target;

@@ -1,15 +1,16 @@
 ghost use Rattle.std.specs.Prelude.{◌≡◌, ◌↔◌, ◌≤◌, ℕ, length, Some, IsTrue, IfErr, OnOk, IfSome, IfNone};
 ghost use Rattle.causal_base.specs.TypeTables.{kind_of_mate};
 ghost use Rattle.target_desc.specs.Drafts.{AreDistinct, MateIsUnknown, MateIsNotMutual, MatesAgree, HasAt, mate_refusals};
-ghost use Rattle.target_desc.specs.Refusals.{IsFirst, IsLeast};
+ghost use Rattle.causal_base.specs.Refusals.{IsFirst, IsLeast};
 
 use crate::draft::{Draft, place_of};
 use crate::target_error::TargetError;
-use causal_base::Kind;
+use causal_base::MOST_TYPES;
 
-/// Refuses the first entry whose mate is no entry's name, and then the first that isn't its mate's mate.
+/// Refuses the first entry whose mate is no entry's name, and then the first that isn't its mate's
+/// mate.
 pub fn check_mates(drafts: &[Draft]) -> Result<(), TargetError>
-    requires few { length drafts.now ≤ 64 }
+    requires few { length drafts.now ≤ MOST_TYPES }
     requires distinct { AreDistinct drafts.now }
     ensures good { OnOk result (MatesAgree drafts.now) }
     ensures err { IfErr result (IsFirst (mate_refusals drafts.now)) }
@@ -25,8 +26,9 @@ pub fn check_mates(drafts: &[Draft]) -> Result<(), TargetError>
 
 /// The first entry whose mate is no entry's name.
 fn first_unknown_mate(drafts: &[Draft]) -> Option<u32>
-    requires { length drafts.now ≤ 64 }
-    ensures found { IfSome result (IsLeast (length drafts.now) (HasAt (MateIsUnknown drafts.now) drafts.now)) }
+    requires { length drafts.now ≤ MOST_TYPES }
+    ensures found { IfSome result (IsLeast (length drafts.now)
+        (HasAt (MateIsUnknown drafts.now) drafts.now)) }
     ensures none { IfNone result ((i : ℕ) → HasAt (MateIsUnknown drafts.now) drafts.now i → ⊥) }
 {
     for (place, draft) in drafts.iter().enumerate() {
@@ -39,9 +41,10 @@ fn first_unknown_mate(drafts: &[Draft]) -> Option<u32>
 
 /// The first entry with a mate that isn't its mate's mate.
 fn first_unmutual_mate(drafts: &[Draft]) -> Option<u32>
-    requires few { length drafts.now ≤ 64 }
+    requires few { length drafts.now ≤ MOST_TYPES }
     requires distinct { AreDistinct drafts.now }
-    ensures found { IfSome result (IsLeast (length drafts.now) (HasAt (MateIsNotMutual drafts.now) drafts.now)) }
+    ensures found { IfSome result (IsLeast (length drafts.now)
+        (HasAt (MateIsNotMutual drafts.now) drafts.now)) }
     ensures none { IfNone result ((i : ℕ) → HasAt (MateIsNotMutual drafts.now) drafts.now i → ⊥) }
 {
     for (place, draft) in drafts.iter().enumerate() {
@@ -54,7 +57,7 @@ fn first_unmutual_mate(drafts: &[Draft]) -> Option<u32>
 
 /// Whether the entry has a mate that is no entry's name.
 fn has_unknown_mate(drafts: &[Draft], draft: &Draft) -> bool
-    requires { length drafts.now ≤ 64 }
+    requires { length drafts.now ≤ MOST_TYPES }
     ensures { IsTrue result ↔ MateIsUnknown drafts.now draft.now }
 {
     match &draft.mate {
@@ -65,7 +68,7 @@ fn has_unknown_mate(drafts: &[Draft], draft: &Draft) -> bool
 
 /// Whether the entry has a mate, and isn't the mate of one of the kind that its own mates with.
 fn has_no_mutual_mate(drafts: &[Draft], draft: &Draft) -> bool
-    requires few { length drafts.now ≤ 64 }
+    requires few { length drafts.now ≤ MOST_TYPES }
     requires distinct { AreDistinct drafts.now }
     ensures { IsTrue result ↔ MateIsNotMutual drafts.now draft.now }
 {
@@ -78,22 +81,15 @@ fn has_no_mutual_mate(drafts: &[Draft], draft: &Draft) -> bool
     }
 }
 
-/// Whether the second entry has the first as its mate, and is of the kind that the first one's mates with.
+/// Whether the second entry has the first as its mate, and is of the kind that the first one's
+/// mates with.
 fn are_mutual(draft: &Draft, its: &Draft) -> bool
-    ensures { IsTrue result ↔ ((its.now.mate ≡ Some draft.now.name) × (kind_of_mate draft.now.kind ≡ Some its.now.kind)) }
+    ensures { IsTrue result ↔ ((its.now.mate ≡ Some draft.now.name)
+        × (kind_of_mate draft.now.kind ≡ Some its.now.kind)) }
 {
     match &its.mate {
-        Some(mate) => mate.bytes() == draft.name.bytes() && fit(draft.kind, its.kind),
+        Some(mate) => mate.bytes() == draft.name.bytes()
+            && draft.kind.kind_of_mate() == Some(its.kind),
         None => false,
     }
-}
-
-/// Whether types of the first kind mate with types of the second.
-fn fit(kind: Kind, its: Kind) -> bool
-    ensures { IsTrue result ↔ (kind_of_mate kind ≡ Some its) }
-{
-    matches!(
-        (kind, its),
-        (Kind::Send, Kind::Receive) | (Kind::Receive, Kind::Send) | (Kind::Sync, Kind::Sync)
-    )
 }

@@ -1,23 +1,21 @@
 ghost use Rattle.std.specs.Prelude.{◌≡◌, ◌≢◌, ◌⊎◌, ◌<◌, ◌≤◌, ℕ, length, Some, slice_get, IfOk, IfErr, OnOk, IfSome, IfNone};
 ghost use Rattle.target_desc.specs.Drafts.{AreDistinct, MatesAgree, mate_refusals};
 ghost use Rattle.target_desc.specs.Reading.{HasStray, IsReadAs, IsRefusedWith, IsTargetOf, refusals_of};
-ghost use Rattle.target_desc.specs.Refusals.{ArePassed, IsFirst};
+ghost use Rattle.causal_base.specs.Refusals.{ArePassed, IsFirst};
 ghost use Rattle.toml.specs.View.{table_view};
 
 use crate::draft::{Draft, drafts_of};
 use crate::fields::array_under;
 use crate::keys::has_stray;
+use crate::limits::MOST_BYTES;
 use crate::mates::check_mates;
 use crate::rows::rows_of;
 use crate::target_error::TargetError;
 use crate::traces::trace_names;
-use causal_base::{Text, Types};
+use causal_base::{MOST_TYPES, Text, Types};
 use std::alloc::Global;
 use std::marker::Model;
 use toml::Table;
-
-/// How many bytes a target file has at most.
-const MOST_BYTES: usize = 1_048_576;
 
 /// What a target file names: the traces of a distributed program, and its types of events.
 #[derive(Debug, Drop)]
@@ -39,13 +37,15 @@ impl Model for Target {
 impl Target {
     ghost use Rattle.target_desc.specs.Target.{AreTraceNames};
 
-    /// The target that the bytes of a file say: trace number i is trace i of the file, and type number i is its entry i.
+    /// The target that the bytes of a file say: trace number i is trace i of the file, and type
+    /// number i is its entry i.
     ///
-    /// Each refusal comes exactly where it is the first that applies, in the order of [`TargetError`]. `Oom` comes where
-    /// memory runs out, at any place.
+    /// Each refusal comes exactly where it is the first that applies, in the order of
+    /// [`TargetError`]. `Oom` comes where memory runs out, at any place.
     pub fn read(alloc: Global, bytes: &[u8]) -> Result<Target, TargetError>
         ensures ok { IfOk result (IsReadAs bytes.now) }
-        ensures err { IfErr result (λ error. (error ≡ TargetError.Oom) ⊎ IsRefusedWith bytes.now error) }
+        ensures err { IfErr result (λ error. (error ≡ TargetError.Oom)
+            ⊎ IsRefusedWith bytes.now error) }
     {
         if bytes.len() > MOST_BYTES {
             return Err(TargetError::TooLong);
@@ -76,8 +76,10 @@ impl Target {
     /// The number of the trace with this name, or none where no trace has it.
     pub fn trace_of(&self, name: &[u8]) -> Option<u32>
         ensures named { IfSome result (λ trace. slice_get self.now.traces trace ≡ Some name.now) }
-        ensures only { IfSome result (λ trace. (other : ℕ) → slice_get self.now.traces other ≡ Some name.now → other ≡ trace) }
-        ensures none { IfNone result ((trace : ℕ) → slice_get self.now.traces trace ≢ Some name.now) }
+        ensures only { IfSome result (λ trace. (other : ℕ)
+            → slice_get self.now.traces other ≡ Some name.now → other ≡ trace) }
+        ensures none { IfNone result ((trace : ℕ)
+            → slice_get self.now.traces trace ≢ Some name.now) }
     {
         for trace in 0..self.types.traces() {
             if self.trace_name(trace) == name {
@@ -92,7 +94,8 @@ impl Target {
 fn target_of(alloc: Global, document: &Table) -> Result<Target, TargetError>
     ensures good { OnOk result (ArePassed (refusals_of (table_view document.now))) }
     ensures says { IfOk result (IsTargetOf (table_view document.now)) }
-    ensures err { IfErr result (λ error. (error ≡ TargetError.Oom) ⊎ IsFirst (refusals_of (table_view document.now)) error) }
+    ensures err { IfErr result (λ error. (error ≡ TargetError.Oom)
+        ⊎ IsFirst (refusals_of (table_view document.now)) error) }
 {
     let traces = trace_names(alloc, array_under(document, "traces"))?;
     let drafts = drafts_of(alloc, array_under(document, "event"))?;
@@ -108,12 +111,13 @@ fn target_of(alloc: Global, document: &Table) -> Result<Target, TargetError>
 
 /// Refuses the first entry whose mate is unknown or not mutual, and then a key that says nothing.
 fn check_mates_and_keys(document: &Table, drafts: &[Draft]) -> Result<(), TargetError>
-    requires few { length drafts.now ≤ 64 }
+    requires few { length drafts.now ≤ MOST_TYPES }
     requires distinct { AreDistinct drafts.now }
     ensures mates { OnOk result (MatesAgree drafts.now) }
     ensures keys { OnOk result (HasStray (table_view document.now) → ⊥) }
     ensures err { IfErr result (λ error. IsFirst (mate_refusals drafts.now) error
-        ⊎ (MatesAgree drafts.now × HasStray (table_view document.now) × (error ≡ TargetError.StrayKey))) }
+        ⊎ (MatesAgree drafts.now × HasStray (table_view document.now)
+        × (error ≡ TargetError.StrayKey))) }
 {
     check_mates(drafts)?;
     if has_stray(document) {

@@ -1,7 +1,7 @@
 ghost use Rattle.std.specs.Prelude.{◌≡◌};
 
-/// Why a target file is refused, the first of these that applies. Traces and entries of types are numbered from 0, in
-/// the order of the file.
+/// Why a target file is refused, the first of these that applies. Traces and entries of types are
+/// numbered from 0, in the order of the file.
 #[derive(Clone, Copy, Debug, PartialEq, Eq)]
 pub enum TargetError {
     /// The file has more than 1,048,576 bytes.
@@ -34,7 +34,8 @@ pub enum TargetError {
     MateUnknown(u32),
     /// The mate of this entry has another mate or none, or its kind doesn't mate with this one's.
     MateNotMutual(u32),
-    /// The document has a key other than `traces` and `event`, or an entry one other than `name`, `kind` and `mate`.
+    /// The document has a key other than `traces` and `event`, or an entry one other than `name`,
+    /// `kind` and `mate`.
     StrayKey,
     /// Memory ran out.
     Oom,

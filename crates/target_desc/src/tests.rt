@@ -1,5 +1,5 @@
-//! Tests of what no clause says: that reading succeeds where memory is left, and documents whose targets and refusals
-//! were worked out by hand.
+//! Tests of what no clause says: that reading succeeds where memory is left, and documents whose
+//! targets and refusals were worked out by hand.
 
 use crate::{Target, TargetError};
 use causal_base::Kind;
@@ -25,7 +25,8 @@ kind = \"sync\"
 mate = \"y\"
 ";
 
-/// A shop: its types mate across, and are written as inline tables with a comment and another order of keys.
+/// A shop: its types mate across, and are written as inline tables with a comment and another order
+/// of keys.
 const SHOP: &str = "event = [
   { name = \"log\", kind = \"unary\" }, # within a trace
   { mate = \"called\", name = \"call\", kind = \"send\" },
@@ -84,19 +85,23 @@ const REFUSED: [(&str, TargetError); 47] = [
     ("traces = [\"a\"]\nevent = [1]", TargetError::BadType(0)),
     ("traces = [\"a\"]\n[[event]]", TargetError::BadType(0)),
     (
-        "traces = [\"a\"]\nevent = [{ name = \"u\", kind = \"unary\" }, { name = 1 }, { name = \"v\", kind = \"unary\" }]",
+        "traces = [\"a\"]\nevent = [{ name = \"u\", kind = \"unary\" }, { name = 1 }, \
+         { name = \"v\", kind = \"unary\" }]",
         TargetError::BadType(1),
     ),
     (
-        "traces = [\"a\"]\nevent = [{ name = \"u\", kind = \"unary\" }, { kind = \"unary\", name = \"v v\" }]",
+        "traces = [\"a\"]\nevent = [{ name = \"u\", kind = \"unary\" }, { kind = \"unary\", \
+         name = \"v v\" }]",
         TargetError::BadType(1),
     ),
     (
-        "traces = [\"a\"]\nevent = [{ name = \"u\", kind = \"unary\" }, { name = \"u\", kind = \"unary\" }]",
+        "traces = [\"a\"]\nevent = [{ name = \"u\", kind = \"unary\" }, { name = \"u\", \
+         kind = \"unary\" }]",
         TargetError::TwiceType(1),
     ),
     (
-        "traces = [\"a\"]\nevent = [{ name = \"u\", kind = \"unary\" }, { name = \"v\", kind = \"unary\" }, { name = \"u\" }]",
+        "traces = [\"a\"]\nevent = [{ name = \"u\", kind = \"unary\" }, { name = \"v\", \
+         kind = \"unary\" }, { name = \"u\" }]",
         TargetError::TwiceType(2),
     ),
     // A trace and a type may have one name.
@@ -105,11 +110,13 @@ const REFUSED: [(&str, TargetError); 47] = [
         TargetError::BadKind(0),
     ),
     (
-        "traces = [\"a\"]\nevent = [{ name = \"u\", kind = \"unary\" }, { name = \"v\", kind = \"Unary\" }]",
+        "traces = [\"a\"]\nevent = [{ name = \"u\", kind = \"unary\" }, { name = \"v\", \
+         kind = \"Unary\" }]",
         TargetError::BadKind(1),
     ),
     (
-        "traces = [\"a\"]\nevent = [{ name = \"u\", kind = \"unary\" }, { name = \"v\", kind = [\"send\"], mate = \"u\" }]",
+        "traces = [\"a\"]\nevent = [{ name = \"u\", kind = \"unary\" }, { name = \"v\", \
+         kind = [\"send\"], mate = \"u\" }]",
         TargetError::BadKind(1),
     ),
     (
@@ -117,7 +124,8 @@ const REFUSED: [(&str, TargetError); 47] = [
         TargetError::MateNeeded(0),
     ),
     (
-        "traces = [\"a\"]\nevent = [{ name = \"u\", kind = \"unary\" }, { name = \"y\", kind = \"sync\", mate = 1 }]",
+        "traces = [\"a\"]\nevent = [{ name = \"u\", kind = \"unary\" }, { name = \"y\", \
+         kind = \"sync\", mate = 1 }]",
         TargetError::MateNeeded(1),
     ),
     (
@@ -125,12 +133,14 @@ const REFUSED: [(&str, TargetError); 47] = [
         TargetError::MateGiven(0),
     ),
     (
-        "traces = [\"a\"]\nevent = [{ name = \"u\", kind = \"unary\" }, { name = \"w\", kind = \"watch\", mate = \"u\" }]",
+        "traces = [\"a\"]\nevent = [{ name = \"u\", kind = \"unary\" }, { name = \"w\", \
+         kind = \"watch\", mate = \"u\" }]",
         TargetError::MateGiven(1),
     ),
     // The first entry with something wrong counts, whatever it is.
     (
-        "traces = [\"a\"]\nevent = [{ name = \"u\", kind = \"unary\", mate = \"u\" }, { name = 1 }]",
+        "traces = [\"a\"]\nevent = [{ name = \"u\", kind = \"unary\", mate = \"u\" }, \
+         { name = 1 }]",
         TargetError::MateGiven(0),
     ),
     // Mates that aren't there, and mates that don't agree.
@@ -139,7 +149,8 @@ const REFUSED: [(&str, TargetError); 47] = [
         TargetError::MateUnknown(0),
     ),
     (
-        "traces = [\"a\"]\nevent = [{ name = \"u\", kind = \"unary\" }, { name = \"s\", kind = \"send\", mate = \"u\" }, { name = \"r\", kind = \"receive\", mate = \"x\" }]",
+        "traces = [\"a\"]\nevent = [{ name = \"u\", kind = \"unary\" }, { name = \"s\", \
+         kind = \"send\", mate = \"u\" }, { name = \"r\", kind = \"receive\", mate = \"x\" }]",
         TargetError::MateUnknown(2),
     ),
     (
@@ -147,19 +158,24 @@ const REFUSED: [(&str, TargetError); 47] = [
         TargetError::MateNotMutual(0),
     ),
     (
-        "traces = [\"a\"]\nevent = [{ name = \"u\", kind = \"unary\" }, { name = \"s\", kind = \"send\", mate = \"u\" }]",
+        "traces = [\"a\"]\nevent = [{ name = \"u\", kind = \"unary\" }, { name = \"s\", \
+         kind = \"send\", mate = \"u\" }]",
         TargetError::MateNotMutual(1),
     ),
     (
-        "traces = [\"a\"]\nevent = [{ name = \"s\", kind = \"send\", mate = \"r\" }, { name = \"r\", kind = \"receive\", mate = \"s\" }, { name = \"t\", kind = \"receive\", mate = \"s\" }]",
+        "traces = [\"a\"]\nevent = [{ name = \"s\", kind = \"send\", mate = \"r\" }, \
+         { name = \"r\", kind = \"receive\", mate = \"s\" }, { name = \"t\", kind = \"receive\", \
+         mate = \"s\" }]",
         TargetError::MateNotMutual(2),
     ),
     (
-        "traces = [\"a\"]\nevent = [{ name = \"s\", kind = \"send\", mate = \"t\" }, { name = \"t\", kind = \"send\", mate = \"s\" }]",
+        "traces = [\"a\"]\nevent = [{ name = \"s\", kind = \"send\", mate = \"t\" }, \
+         { name = \"t\", kind = \"send\", mate = \"s\" }]",
         TargetError::MateNotMutual(0),
     ),
     (
-        "traces = [\"a\"]\nevent = [{ name = \"y\", kind = \"sync\", mate = \"s\" }, { name = \"s\", kind = \"send\", mate = \"y\" }]",
+        "traces = [\"a\"]\nevent = [{ name = \"y\", kind = \"sync\", mate = \"s\" }, \
+         { name = \"s\", kind = \"send\", mate = \"y\" }]",
         TargetError::MateNotMutual(0),
     ),
     // Keys that say nothing, and an earlier refusal beside one.
@@ -168,7 +184,8 @@ const REFUSED: [(&str, TargetError); 47] = [
         TargetError::StrayKey,
     ),
     (
-        "traces = [\"a\"]\nevent = [{ name = \"u\", kind = \"unary\" }, { name = \"v\", kind = \"unary\", note = \"n\" }]",
+        "traces = [\"a\"]\nevent = [{ name = \"u\", kind = \"unary\" }, { name = \"v\", \
+         kind = \"unary\", note = \"n\" }]",
         TargetError::StrayKey,
     ),
     (
@@ -210,7 +227,8 @@ fn refuses_the_first_fault(rt: HostRuntime) {
     assert_eq!(rt; TargetError::StrayKey.name_and_number(), ("StrayKey", None));
 }
 
-/// Entries that are refused behind and before others, whose names are `u0` to `u4`, and how at place 0.
+/// Entries that are refused behind and before others, whose names are `u0` to `u4`, and how at
+/// place 0.
 const BAD_ENTRIES: [(&str, TargetError); 8] = [
     ("name = 1, kind = \"unary\"", TargetError::BadType(0)),
     ("kind = \"unary\"", TargetError::BadType(0)),

@@ -1,7 +1,7 @@
 ghost use Rattle.std.specs.Prelude.{◌≡◌, ◌⊎◌, ◌≤◌, ◌<◌, ℕ, List, length, map, Some, slice_get, vec_len, All, IfOk, IfErr, OnOk, IfSome, IfNone};
 ghost use Rattle.causal_base.specs.Spelling.{IsName};
 ghost use Rattle.target_desc.specs.Names.{IsTwiceName};
-ghost use Rattle.target_desc.specs.Refusals.{ArePassed, IsFirst, IsLeast};
+ghost use Rattle.causal_base.specs.Refusals.{ArePassed, IsFirst, IsLeast};
 ghost use Rattle.target_desc.specs.Target.{AreTraceNames};
 ghost use Rattle.target_desc.specs.Traces.{IsBadTrace, trace_refusals};
 ghost use Rattle.toml.specs.Data.{string};
@@ -9,26 +9,24 @@ ghost use Rattle.toml.specs.View.{view};
 
 use crate::fields::count_told;
 use crate::target_error::TargetError;
-use causal_base::{Text, is_name};
+use causal_base::{MOST_TRACES, Text, is_name};
 use std::alloc::Global;
 use toml::Value;
-
-/// How many traces there are at most.
-const MOST_TRACES: usize = 256;
 
 /// The names of the traces, or what is wrong with them.
 pub fn trace_names(alloc: Global, traces: &[Value]) -> Result<Vec<Text>, TargetError>
     ensures good { OnOk result (ArePassed (trace_refusals (map view traces.now))) }
     ensures names { IfOk result (λ names. map string names.items ≡ map view traces.now) }
     ensures some { IfOk result (λ names. 1 ≤ vec_len names) }
-    ensures most { IfOk result (λ names. vec_len names ≤ 256) }
+    ensures most { IfOk result (λ names. vec_len names ≤ MOST_TRACES) }
     ensures are_names { IfOk result (λ names. AreTraceNames names.items (vec_len names)) }
-    ensures err { IfErr result (λ error. (error ≡ TargetError.Oom) ⊎ IsFirst (trace_refusals (map view traces.now)) error) }
+    ensures err { IfErr result (λ error. (error ≡ TargetError.Oom)
+        ⊎ IsFirst (trace_refusals (map view traces.now)) error) }
 {
     if traces.is_empty() {
         return Err(TargetError::NoTraces);
     }
-    if traces.len() > MOST_TRACES {
+    if traces.len() > MOST_TRACES as usize {
         return Err(TargetError::TooManyTraces(count_told(traces.len())));
     }
     let names = names_of(alloc, traces)?;
@@ -40,11 +38,12 @@ pub fn trace_names(alloc: Global, traces: &[Value]) -> Result<Vec<Text>, TargetE
 
 /// The names that these are, or the first that is none.
 fn names_of(alloc: Global, traces: &[Value]) -> Result<Vec<Text>, TargetError>
-    requires { length traces.now ≤ 256 }
+    requires { length traces.now ≤ MOST_TRACES }
     ensures names { IfOk result (λ names. map string names.items ≡ map view traces.now) }
     ensures are_names { IfOk result (λ names. All IsName names.items) }
     ensures err { IfErr result (λ error. (error ≡ TargetError.Oom)
-        ⊎ ((i : ℕ) × IsLeast (length traces.now) (IsBadTrace (map view traces.now)) i × (error ≡ TargetError.BadTrace i))) }
+        ⊎ ((i : ℕ) × IsLeast (length traces.now) (IsBadTrace (map view traces.now)) i
+        × (error ≡ TargetError.BadTrace i))) }
 {
     let mut names = Vec::new(alloc);
     for (place, trace) in traces.iter().enumerate() {
@@ -65,7 +64,8 @@ fn names_of(alloc: Global, traces: &[Value]) -> Result<Vec<Text>, TargetError>
 fn name_in(trace: &Value) -> Option<&str>
     ensures found { IfSome result (λ name. view trace.now ≡ string name.now) }
     ensures is_name { IfSome result (λ name. IsName name.now) }
-    ensures none { IfNone result ((name : List ℕ) → view trace.now ≡ string name → IsName name → ⊥) }
+    ensures none { IfNone result ((name : List ℕ) → view trace.now ≡ string name → IsName name
+        → ⊥) }
 {
     let name = trace.as_str()?;
     if is_name(name.as_bytes()) {
@@ -77,7 +77,7 @@ fn name_in(trace: &Value) -> Option<&str>
 
 /// The first place whose name stands at an earlier one.
 fn first_twice(names: &[Text]) -> Option<u32>
-    requires { length names.now ≤ 256 }
+    requires { length names.now ≤ MOST_TRACES }
     ensures found { IfSome result (IsLeast (length names.now) (IsTwiceName names.now)) }
     ensures none { IfNone result ((i : ℕ) → i < length names.now → IsTwiceName names.now i → ⊥) }
 {

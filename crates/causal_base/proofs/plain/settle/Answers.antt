@@ -3,7 +3,7 @@ use Rattle.causal_base.specs.declared.block.Block.TheVariants.{One, Two}
 use Rattle.causal_base.specs.declared.entry.Entry.TheVariants.{Gone, Pair}
 use Rattle.causal_base.specs.Past.{came, IsNext}
 use Rattle.causal_base.proofs.Journals.{reverse-push}
-use Rattle.causal_base.proofs.Steps.{next_trace, next_count, next_room, pair_lower, pair_trace, pair_count, pair_room}
+use Rattle.causal_base.proofs.OpenJournals.{next_trace, next_count, next_room, pair_lower, pair_trace, pair_count, pair_room}
 use Rattle.causal_base.proofs.plain.settle.Goals as goal
 use Rattle.causal_base.proofs.plain.settle.Goals.{In-One, In-Two}
 

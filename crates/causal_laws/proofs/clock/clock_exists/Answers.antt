@@ -1,5 +1,5 @@
 -- It is the limit of what reaches the event on the trace.
-use Rattle.causal_base.proofs.Pasts.{causal}
+use Rattle.causal_base.proofs.CallerLemmas.{causal}
 use Rattle.causal_base.specs.Journal.{deliveries_by}
 use Rattle.causal_laws.proofs.Entries.{has_clock}
 use Rattle.std.specs.Prelude.{reverse}

@@ -1,7 +1,7 @@
 -- Partners reach each other.
 use Rattle.causal_base.specs.Journal.{delivered_by}
 use Rattle.causal_laws.proofs.Entries.{partner_clock}
-use Rattle.causal_base.proofs.Newest.{pairs_swapped}
+use Rattle.causal_base.proofs.CallerLemmas.{pairs_swapped}
 use Rattle.causal_laws.proofs.clock.partners_share_clock.Goals as goal
 
 pub returns : goal.returns

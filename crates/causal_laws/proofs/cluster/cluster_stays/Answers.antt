@@ -1,9 +1,7 @@
 -- An event reaches the later ones of its trace, and what reaches an event was delivered before it.
-use Rattle.causal_base.proofs.Histories.{numbered}
-use Rattle.causal_base.proofs.Pasts.{causal}
+use Rattle.causal_base.proofs.CallerLemmas.{numbered, causal, reaches_later}
 use Rattle.causal_base.specs.Journal.{delivered_by, deliveries_by}
 use Rattle.causal_laws.proofs.Levels.{stays_shared}
-use Rattle.causal_laws.proofs.Limits.{reaches_later}
 use Rattle.std.specs.Prelude.{reverse}
 use Rattle.causal_laws.proofs.cluster.cluster_stays.Goals as goal
 

@@ -1,5 +1,5 @@
 -- Both ways, by the last step of a walk that enters the members.
-use Rattle.causal_base.proofs.Pasts.{causal}
+use Rattle.causal_base.proofs.CallerLemmas.{causal}
 use Rattle.causal_base.specs.Journal.{deliveries_by}
 use Rattle.causal_laws.proofs.Entries.{greatest_from_clock, clock_from_greatest}
 use Rattle.std.specs.Prelude.{reverse}

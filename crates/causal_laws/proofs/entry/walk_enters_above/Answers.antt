@@ -1,5 +1,5 @@
 -- The step that enters the members ends at such an event.
-use Rattle.causal_base.proofs.Pasts.{causal}
+use Rattle.causal_base.proofs.CallerLemmas.{causal}
 use Rattle.causal_base.specs.Journal.{deliveries_by}
 use Rattle.causal_laws.proofs.Levels.{walk_enters}
 use Rattle.std.specs.Prelude.{reverse}

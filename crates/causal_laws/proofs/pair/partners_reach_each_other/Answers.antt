@@ -1,6 +1,6 @@
 -- A pair is a step both ways.
 use Rattle.causal_base.specs.Journal.{delivered_by}
-use Rattle.causal_base.proofs.Newest.{pairs_swapped}
+use Rattle.causal_base.proofs.CallerLemmas.{pairs_swapped}
 use Rattle.causal_laws.proofs.PairPasts.{partner_reaches}
 use Rattle.causal_laws.proofs.pair.partners_reach_each_other.Goals as goal
 

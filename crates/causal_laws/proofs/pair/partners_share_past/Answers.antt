@@ -1,9 +1,7 @@
 -- A walk to one partner goes on to the other.
 use Rattle.std.specs.Prelude.{reverse}
 use Rattle.causal_base.specs.Journal.{delivered_by}
-use Rattle.causal_base.proofs.Newest.{pairs_swapped}
-use Rattle.causal_base.proofs.Reaching.{reaches_on}
-use Rattle.causal_base.proofs.Ready.{delivered_numbered}
+use Rattle.causal_base.proofs.CallerLemmas.{pairs_swapped, reaches_on, delivered_numbered}
 use Rattle.causal_laws.proofs.PairPasts.{partner_reaches, before_partner}
 use Rattle.causal_laws.proofs.pair.partners_share_past.Goals as goal
 

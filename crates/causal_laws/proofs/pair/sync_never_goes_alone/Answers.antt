@@ -5,8 +5,7 @@ use Rattle.causal_base.specs.declared.event.Event.{Event}
 use Rattle.causal_base.specs.declared.kind.Kind.TheVariants.{Sync}
 use Rattle.causal_base.specs.Event.{IsOfKind}
 use Rattle.causal_base.specs.Journal.{delivered_by}
-use Rattle.causal_base.proofs.Numbered.{same_event}
-use Rattle.causal_base.proofs.Ready.{delivered_numbered}
+use Rattle.causal_base.proofs.CallerLemmas.{same_event, delivered_numbered}
 use Rattle.causal_laws.proofs.PairBlocks.{gone_entry, Contains-reversed}
 use Rattle.causal_laws.proofs.pair.sync_never_goes_alone.Goals as goal
 

@@ -1,12 +1,13 @@
 use Rattle.std.proofs.Common.{arith}
 use Rattle.std.proofs.lemmas.Grind.{common_steps}
-use Rattle.poet_io.proofs.BytesSoFar.{Grows_further}
+use Rattle.poet_io.proofs.Writers.{written_further}
 use Rattle.poet_io.proofs.writing.put.Goals as goal
 
--- The bytes written so far and those of this turn are a longer front of all.
+-- The bytes written so far and those of this turn are a longer prefix of all.
 pub loop-written-preserved : goal.loop-written-preserved
-loop-written-preserved g c = record {
-  within = grind (arith, common_steps);
-  grown = Grows_further _ _ _ c.args.bytes.now c.loop-written.written c.in_ok-written.field-0 c.loop-written.invariant.grown c.in_ok-written.ensures.grown;
-  no_fault = grind (arith, common_steps);
-}
+loop-written-preserved g c =
+    let state = g.K.Sink.state in
+    record {
+      within = grind (arith, common_steps);
+      so_far = written_further (state c.args.out.now) (state c.loop-written.out) (state c.write.new.self) c.args.bytes.now c.loop-written.written c.in_ok-written.field-0 c.loop-written.invariant.so_far c.in_ok-written.ensures.grown c.in_ok-written.ensures.no_fault;
+    }

@@ -1,5 +1,6 @@
 use Rattle.std.proofs.Common.{◌≡◌, ◌∷◌, [], map, string_bytes, sym, ◌∙◌, ap, subst, refl, arith}
 use Rattle.std.specs.Prelude.{codes}
+use Rattle.causal_base.specs.declared.limits.TheConstants.{MOST_TRACES}
 use Rattle.causal_base.specs.Fields.{IsIdInRange}
 use Rattle.poet_top.proofs.Exits.{if_none}
 use Rattle.poet_top.proofs.Words.{four}
@@ -26,4 +27,4 @@ returns-in_err-a-clause-none c =
     (omega (arith, c.in-len4.len_at_least)) (omega (arith, c.in-len4.len_below)) c.command-item.is c.name-item.is c.a-item.is c.b-item.is in
     let all = sym words_are.are ∙ ap (λ ws. map string_bytes ws) words in
     let third : words_are.first ≡ string_bytes c.a-item.result = cc in
-    c.in_err-a.ensures.none a (subst (λ bytes. IsIdInRange bytes 256 a) (third ∙ sym c.as_str-2.ensures.value) words_are.a_is))
+    c.in_err-a.ensures.none a (subst (λ bytes. IsIdInRange bytes MOST_TRACES a) (third ∙ sym c.as_str-2.ensures.value) words_are.a_is))

@@ -4,7 +4,8 @@ use Rattle.causal_base.specs.declared.event.Event.{Event}
 use Rattle.causal_base.specs.Types.{TypeTable}
 use Rattle.poet_top.specs.declared.fault.Fault.{Fault}
 use Rattle.poet_top.specs.declared.fault.Fault.TheVariants.{Memory, Full}
-use Rattle.poet_top.specs.Ask.{most_plain_events, count_of_ids}
+use Rattle.causal_base.specs.declared.limits.TheConstants.{MOST_PLAIN_EVENTS}
+use Rattle.poet_top.specs.Ask.{count_of_ids}
 use Rattle.poet_top.specs.Taking.{HasTaken}
 use Rattle.poet_top.proofs.Exits.{if_err_from}
 use Rattle.poet_top.proofs.Turns.{taken_front, taken_all}
@@ -43,7 +44,7 @@ returns-in_err-offer-clause-err c =
     let before = c.loop-event.plain in
     let fault = c.in_err-offer.field-0.0 in
     let Caused : Fault → Type 0 = λ f. (f ≡ Memory) ⊎ ((f ≡ Full) × ((events others : List Event) → HasTaken c.args.plain.now.types events c.args.plain.now.journal
-    → most_plain_events < count_of_ids (events ++ (c.args.batch ++ others)))) in
+    → MOST_PLAIN_EVENTS < count_of_ids (events ++ (c.args.batch ++ others)))) in
     let gives : into_iter_items c.into_iter-event-iterator.result ≡ c.into_vec-event-items.result.items = c.into_iter-event-iterator.ensures.into_iter_gives.0 in
     let rest = into_iter_items c.next.new.self in
     let all : c.loop-event.yielded ++ c.in-Some.event ∷ rest ≡ c.args.batch =
@@ -56,9 +57,9 @@ returns-in_err-offer-clause-err c =
         λ events others has.
             let so_far = subst (λ (t : TypeTable). HasTaken t (events ++ c.loop-event.yielded) before.journal) (sym c.loop-event.invariant.types) (c.loop-event.invariant.took events has) in
             let many = full.1 (events ++ c.loop-event.yielded) (rest ++ others) so_far in
-            subst (λ es. most_plain_events < count_of_ids (events ++ (es ++ others))) all
-            (subst (λ es. most_plain_events < count_of_ids (events ++ es)) (sym (append_assoc c.loop-event.yielded (c.in-Some.event ∷ rest) others))
-            (subst (λ es. most_plain_events < count_of_ids es) (append_assoc events c.loop-event.yielded (c.in-Some.event ∷ (rest ++ others))) many)),
+            subst (λ es. MOST_PLAIN_EVENTS < count_of_ids (events ++ (es ++ others))) all
+            (subst (λ es. MOST_PLAIN_EVENTS < count_of_ids (events ++ es)) (sym (append_assoc c.loop-event.yielded (c.in-Some.event ∷ rest) others))
+            (subst (λ es. MOST_PLAIN_EVENTS < count_of_ids es) (append_assoc events c.loop-event.yielded (c.in-Some.event ∷ (rest ++ others))) many)),
       )
     ] in
     if_err_from Caused c.from_residual.result fault c.from_residual.ensures.1 caused

@@ -3,10 +3,11 @@ use Rattle.std.specs.List.{AllByRecursion}
 use Rattle.causal_base.specs.declared.event.Event.{Event}
 use Rattle.causal_base.specs.Event.{IsFit}
 use Rattle.causal_base.specs.Types.{TypeTable}
-use Rattle.raw_reader.specs.ReaderState.{ReaderState, StandsFor, StandsAtEnd}
+use Rattle.raw_reader.specs.ReaderState.{ReaderState, HasRead, HasReadToEnd}
 use Rattle.poet_top.specs.declared.fault.Fault.{Fault}
 use Rattle.poet_top.specs.declared.fault.Fault.TheVariants.{Memory, Full}
-use Rattle.poet_top.specs.Ask.{most_plain_events, count_of_ids, HasManyIds}
+use Rattle.causal_base.specs.declared.limits.TheConstants.{MOST_PLAIN_EVENTS}
+use Rattle.poet_top.specs.Ask.{count_of_ids, HasManyIds}
 use Rattle.poet_top.specs.Taking.{HasTaken, HasTakenFrom}
 use Rattle.poet_top.proofs.Exits.{if_err_from}
 use Rattle.poet_top.proofs.Waiting.{waiting_none, waiting_more, waiting_from, waiting_stands, many_on, many_at_end}
@@ -39,12 +40,12 @@ returns-in_err-offer_all-clause-err c =
     let list = c.args.plain.now in
     let fault = c.in_err-offer_all.field-0.0 in
     let Caused : Fault → Type 0 = λ f. (f ≡ Memory) ⊎ ((f ≡ Full)
-    × ((fed more : List ℕ) → HasTakenFrom StandsFor first fed list.journal → HasManyIds list.types (fed ++ more))
-    × ((fed : List ℕ) → HasTakenFrom StandsAtEnd first fed list.journal → HasManyIds list.types fed)) in
+    × ((fed more : List ℕ) → HasTakenFrom HasRead first fed list.journal → HasManyIds list.types (fed ++ more))
+    × ((fed : List ℕ) → HasTakenFrom HasReadToEnd first fed list.journal → HasManyIds list.types fed)) in
     let caused : Caused fault = elim c.in_err-offer_all.ensures.err [
       | inl memory ↦ inl memory
       | inr full ↦
-          let meets : (events others : List Event) → HasTaken list.types events c.loop-batch.plain.journal → most_plain_events < count_of_ids (events ++ (c.in-Some.batch ++ others)) =
+          let meets : (events others : List Event) → HasTaken list.types events c.loop-batch.plain.journal → MOST_PLAIN_EVENTS < count_of_ids (events ++ (c.in-Some.batch ++ others)) =
           λ events others has. full.1 events others (subst (λ (t : TypeTable). HasTaken t events c.loop-batch.plain.journal) (sym c.loop-batch.invariant.types) has) in
           inr (
             full.0,
@@ -62,11 +63,11 @@ returns-clause-none_waits c =
 pub returns-clause-going_on : goal.returns-clause-going_on
 returns-clause-going_on c fed has =
     let list = c.args.plain.now in
-    subst (λ (r : ReaderState). HasTakenFrom StandsFor r fed c.loop-batch.plain.journal) (sym c.in_default.ensures.same)
-    (waiting_from c.args.reader.now c.loop-batch.reader list.types list.journal c.loop-batch.plain.journal c.loop-batch.invariant.now StandsFor c.requires.types c.loop-batch.invariant.now.going_on fed has)
+    subst (λ (r : ReaderState). HasTakenFrom HasRead r fed c.loop-batch.plain.journal) (sym c.in_default.ensures.same)
+    (waiting_from c.args.reader.now c.loop-batch.reader list.types list.journal c.loop-batch.plain.journal c.loop-batch.invariant.now HasRead c.requires.types c.loop-batch.invariant.now.going_on fed has)
 
 pub returns-clause-at_end : goal.returns-clause-at_end
 returns-clause-at_end c fed has =
     let list = c.args.plain.now in
-    subst (λ (r : ReaderState). HasTakenFrom StandsAtEnd r fed c.loop-batch.plain.journal) (sym c.in_default.ensures.same)
-    (waiting_from c.args.reader.now c.loop-batch.reader list.types list.journal c.loop-batch.plain.journal c.loop-batch.invariant.now StandsAtEnd c.requires.types c.loop-batch.invariant.now.at_end fed has)
+    subst (λ (r : ReaderState). HasTakenFrom HasReadToEnd r fed c.loop-batch.plain.journal) (sym c.in_default.ensures.same)
+    (waiting_from c.args.reader.now c.loop-batch.reader list.types list.journal c.loop-batch.plain.journal c.loop-batch.invariant.now HasReadToEnd c.requires.types c.loop-batch.invariant.now.at_end fed has)

@@ -1,4 +1,4 @@
--- The lines at the front are the first of all lines, and further lines only add batches.
+-- The lines that a text begins with are the first of all lines, and further lines only add batches.
 use Rattle.raw_reader.proofs.TextsOnce.{first_of_good, first_of_faulty}
 use Rattle.raw_reader.proofs.law.closed_batches_come_first.Goals as goal
 

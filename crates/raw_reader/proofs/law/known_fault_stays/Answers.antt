@@ -1,5 +1,5 @@
--- What stands within the most bytes has the fault, and no more of a text changes that.
-use Rattle.raw_reader.proofs.ClosedFronts.{known_stays_on}
+-- What stands within the limit has the fault, and no more of a text changes that.
+use Rattle.raw_reader.proofs.ClosedPrefixes.{known_stays_on}
 use Rattle.raw_reader.proofs.law.known_fault_stays.Goals as goal
 
 pub returns : goal.returns

@@ -1,5 +1,5 @@
 use Rattle.std.proofs.Common.{List, ℕ}
-use Rattle.causal_base.proofs.Cuts.{uncut}
+use Rattle.causal_base.proofs.CallerLemmas.{unsplit}
 use Rattle.raw_reader.specs.Splits.{IsSplit}
 use Rattle.raw_reader.proofs.Exits.{if_none}
 use Rattle.raw_reader.proofs.Splitting.{id_cut, name_cut, mate_cut, time_left, after_id, after_name, after_mate}
@@ -11,18 +11,18 @@ IsUnsplit line = (id name mate time text : List ℕ) → IsSplit line id name ma
 
 pub returns-in_err-id-clause-none : goal.returns-in_err-id-clause-none
 returns-in_err-id-clause-none c = if_none (IsUnsplit c.args.line.now) _
-    (λ id name mate time text split. uncut 32 c.args.line.now id _ c.in_err-id.ensures.none (id_cut _ id name mate time text split))
+    (λ id name mate time text split. unsplit 32 c.args.line.now id _ c.in_err-id.ensures.none (id_cut _ id name mate time text split))
 
 pub returns-in_err-name-clause-none : goal.returns-in_err-name-clause-none
 returns-in_err-name-clause-none c = if_none (IsUnsplit c.args.line.now) _ (λ id name mate time text split.
     let rest = (after_id _ _ _ id name mate time text c.in_ok-id.ensures.found split).1 in
-    uncut 32 _ name _ c.in_err-name.ensures.none (name_cut _ _ id name mate time text rest split))
+    unsplit 32 _ name _ c.in_err-name.ensures.none (name_cut _ _ id name mate time text rest split))
 
 pub returns-in_err-mate-clause-none : goal.returns-in_err-mate-clause-none
 returns-in_err-mate-clause-none c = if_none (IsUnsplit c.args.line.now) _ (λ id name mate time text split.
     let rest = (after_id _ _ _ id name mate time text c.in_ok-id.ensures.found split).1 in
     let more = (after_name _ _ _ _ id name mate time text c.in_ok-name.ensures.found rest split).1 in
-    uncut 32 _ mate _ c.in_err-mate.ensures.none (mate_cut _ _ id name mate time text more split))
+    unsplit 32 _ mate _ c.in_err-mate.ensures.none (mate_cut _ _ id name mate time text more split))
 
 pub returns-in_err-time-clause-none : goal.returns-in_err-time-clause-none
 returns-in_err-time-clause-none c = if_none (IsUnsplit c.args.line.now) _ (λ id name mate time text split.

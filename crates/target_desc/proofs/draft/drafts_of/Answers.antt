@@ -4,7 +4,7 @@ use Rattle.toml.specs.View.{view}
 use Rattle.target_desc.specs.declared.target_error.TargetError.TheVariants.{Oom}
 use Rattle.target_desc.specs.Drafts.{IsDraftOf}
 use Rattle.target_desc.specs.Entries.{entry_refusals, type_refusals}
-use Rattle.target_desc.specs.Refusals.{IsFirst, ArePassed}
+use Rattle.causal_base.specs.Refusals.{IsFirst, ArePassed}
 use Rattle.target_desc.proofs.DraftLemmas.{drafts_more, refused_entry}
 use Rattle.target_desc.proofs.Exits.{if_err_from, or_else}
 use Rattle.target_desc.proofs.draft.drafts_of.Goals as goal

@@ -7,7 +7,7 @@ use Rattle.target_desc.specs.Document.{entries_of}
 use Rattle.target_desc.specs.Drafts.{AreDistinct, MatesAgree, mate_refusals}
 use Rattle.target_desc.specs.Entries.{type_refusals}
 use Rattle.target_desc.specs.Reading.{HasStray, refusals_of}
-use Rattle.target_desc.specs.Refusals.{IsFirst}
+use Rattle.causal_base.specs.Refusals.{IsFirst}
 use Rattle.target_desc.specs.Traces.{trace_refusals}
 use Rattle.target_desc.proofs.Exits.{if_err_from, or_else}
 use Rattle.target_desc.proofs.MateLemmas.{are_distinct}

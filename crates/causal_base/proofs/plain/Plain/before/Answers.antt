@@ -1,15 +1,13 @@
-use Rattle.std.proofs.Common.{◌≡◌, ◌≢◌, ◌⊎◌, inl, inr, sym, ◌∙◌, subst, true, false}
+use Rattle.std.proofs.Common.{◌≡◌, ◌≢◌, ◌⊎◌, inl, inr, sym, ◌∙◌, ap, subst, true, false}
 use Rattle.std.specs.Prelude.{Contains}
-use Rattle.std.specs.BTreeSet.{contains}
+use Rattle.std.proofs.lemmas.Bool.{leb-true, le-leb}
+use Rattle.causal_base.specs.declared.event_id.EventId.{EventId}
 use Rattle.causal_base.specs.Event.{Pairs}
 use Rattle.causal_base.specs.Past.{is_same_id}
 use Rattle.causal_base.specs.Journal.{delivered_by}
-use Rattle.causal_base.specs.Index.{id_cmp}
-use Rattle.causal_base.specs.Asked.{SaysWhetherBefore}
-use Rattle.causal_base.specs.Marking.{HasPast}
 use Rattle.causal_base.specs.PlainList.{TypedJournal, IsOpenJournal}
 use Rattle.causal_base.proofs.Ids.{is_same_id-same, same_from_is_same_id}
-use Rattle.causal_base.proofs.Answering.{says_other, says_no, delivered_type}
+use Rattle.causal_base.proofs.Answering.{says_other, says_no, delivered_type, delivered_trace}
 use Rattle.causal_base.proofs.plain.Plain.before.Goals as goal
 use Rattle.causal_base.proofs.plain.Plain.before.Goals.{then-eq-via-then-eq, then-eq-via-else-eq+then-pairs}
 
@@ -35,19 +33,24 @@ returns-then-eq c =
       | then-eq-via-then-eq w ↦ inl (same_from_is_same_id c.args.a c.args.b (sym c.eq.ensures ∙ w.if-eq.true))
       | then-eq-via-else-eq+then-pairs w ↦ inr (subst (λ (u : TypedJournal). Pairs u.types x y) c.self.view_is (w.pairs.ensures.0 w.if-pairs.true))
     ] in
-    says_no v.types v.journal kept c.args.a c.args.b x y c.in-Some.ensures.some.0 c.in-Some.ensures.some.1 c.in-Some-event.ensures.some.0 c.in-Some-event.ensures.some.1 one
+    let first = c.in-Some.ensures.some in
+    let second = c.in-Some-event.ensures.some in
+    (((x, first.0, first.1), ((y, second.0, second.1), tt)), says_no v.types v.journal kept c.args.a c.args.b x y first.0 first.1 second.0 second.1 one)
+
+pub number_of-requires-clause-trace : goal.number_of-requires-clause-trace
+number_of-requires-clause-trace c =
+    let v = c.args.self.now in
+    let kept = subst (λ (w : TypedJournal). IsOpenJournal w.types w.journal) c.self.view_is c.self.invariant.0 in
+    delivered_trace v.types v.journal kept c.args.a (c.in-Some.first.now, c.in-Some.ensures.some.0, c.in-Some.ensures.some.1)
 
 pub returns : goal.returns
 returns c =
-    let p = c.self.inside in
     let v = c.args.self.now in
     let x = c.in-Some.first.now in
     let y = c.in-Some-event.second.now in
-    let is_marked = contains id_cmp c.in_ok-past.past in
+    let first = c.in-Some.ensures.some in
+    let second = c.in-Some-event.ensures.some in
     let kept = subst (λ (w : TypedJournal). IsOpenJournal w.types w.journal) c.self.view_is c.self.invariant.0 in
-    let there = subst (λ (w : TypedJournal). Contains (delivered_by w.journal) y) (sym c.self.view_is) c.in-Some-event.ensures.some.0 in
-    let past = subst (λ (w : TypedJournal). HasPast w.types (delivered_by w.journal) y is_marked) c.self.view_is
-    (c.in_ok-past.ensures p.types y c.self.invariant.0 there c.in-Some-event.ensures.some.1) in
     let other : c.args.a ≢ c.args.b = λ same.
     let yes = subst (λ i. is_same_id c.args.a i ≡ true) same (is_same_id-same c.args.a) in
     let clash : true ≡ false = sym yes ∙ sym c.eq.ensures ∙ c.if-eq.false in
@@ -56,5 +59,9 @@ returns c =
     let yes = c.pairs.ensures.1 (subst (λ (u : TypedJournal). Pairs u.types x y) (sym c.self.view_is) partners) in
     let clash : true ≡ false = sym yes ∙ c.if-pairs.false in
     cc in
-    subst (SaysWhetherBefore v.types (delivered_by v.journal) c.args.a c.args.b) (sym c.contains.ensures)
-    (says_other v.types v.journal kept c.args.a c.args.b x y c.in-Some.ensures.some.0 c.in-Some.ensures.some.1 c.in-Some-event.ensures.some.0 c.in-Some-event.ensures.some.1 other not_partners is_marked past)
+    let reach = c.number_of.ensures.reach y x second.0 second.1 first.0 (ap (λ (i : EventId). i.trace) first.1) in
+    let number : x.id.number ≡ c.args.a.number = ap (λ (i : EventId). i.number) first.1 in (
+      ((x, first.0, first.1), ((y, second.0, second.1), tt)),
+      says_other v.types v.journal kept c.args.a c.args.b x y first.0 first.1 second.0 second.1 other not_partners _
+          ((λ yes. reach.0 (rw number (leb-true c.args.a.number c.number_of.result yes))), (λ reaches. le-leb c.args.a.number c.number_of.result (rw number at (reach.1 reaches)))),
+    )

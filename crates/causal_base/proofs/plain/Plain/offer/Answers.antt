@@ -8,7 +8,7 @@ use Rattle.causal_base.specs.Past.{came, HasEvent}
 use Rattle.causal_base.specs.Journal.{IsSettled}
 use Rattle.causal_base.specs.PlainList.{TypedJournal, IsOpenJournal}
 use Rattle.causal_base.proofs.Offers.{Answers, repeat_known, clash_known, full_known, clash_new, full_new}
-use Rattle.causal_base.proofs.Steps.{room, kept_came}
+use Rattle.causal_base.proofs.OpenJournals.{room, kept_came}
 use Rattle.causal_base.proofs.plain.Plain.offer.Goals as goal
 
 pub returns-in-Some-clause-repeat : goal.returns-in-Some-clause-repeat
@@ -29,15 +29,15 @@ returns-in-Some-clause-full c =
     subst (λ (v : TypedJournal). Answers c.refusal_of_known.result Full ↔ ((¬ HasEvent (came (reverse v.journal)) c.args.event.id) × (length (came (reverse v.journal)) ≡ 10_000))) c.self.view_is
     (full_known p.types (reverse p.journal) c.self.invariant.0.legal c.args.event c.in-Some.known.now c.in-Some.ensures.some.0 c.in-Some.ensures.some.1 c.refusal_of_known.result c.refusal_of_known.ensures)
 
-pub returns-then-accepted-eq-MOST_EVENTS-clause-clash : goal.returns-then-accepted-eq-MOST_EVENTS-clause-clash
-returns-then-accepted-eq-MOST_EVENTS-clause-clash c =
+pub returns-then-accepted-eq-MOST_PLAIN_EVENTS-clause-clash : goal.returns-then-accepted-eq-MOST_PLAIN_EVENTS-clause-clash
+returns-then-accepted-eq-MOST_PLAIN_EVENTS-clause-clash c =
     subst (λ (v : TypedJournal). Answers Full Clash ↔ (HasEvent (came (reverse v.journal)) c.args.event.id × ¬ Contains (came (reverse v.journal)) c.args.event)) c.self.view_is
     (clash_new (reverse c.self.inside.journal) c.args.event c.in_default.ensures.none (Err Full) (λ e. cc))
 
-pub returns-then-accepted-eq-MOST_EVENTS-clause-full : goal.returns-then-accepted-eq-MOST_EVENTS-clause-full
-returns-then-accepted-eq-MOST_EVENTS-clause-full c =
+pub returns-then-accepted-eq-MOST_PLAIN_EVENTS-clause-full : goal.returns-then-accepted-eq-MOST_PLAIN_EVENTS-clause-full
+returns-then-accepted-eq-MOST_PLAIN_EVENTS-clause-full c =
     subst (λ (v : TypedJournal). Answers Full Full ↔ ((¬ HasEvent (came (reverse v.journal)) c.args.event.id) × (length (came (reverse v.journal)) ≡ 10_000))) c.self.view_is
-    (full_new (reverse c.self.inside.journal) c.args.event c.in_default.ensures.none (sym c.accepted.ensures ∙ c.if-accepted-eq-MOST_EVENTS.true))
+    (full_new (reverse c.self.inside.journal) c.args.event c.in_default.ensures.none (sym c.accepted.ensures ∙ c.if-accepted-eq-MOST_PLAIN_EVENTS.true))
 
 pub push_came-requires-clause-room : goal.push_came-requires-clause-room
 push_came-requires-clause-room c = room c.self.inside.types c.self.inside.journal c.self.invariant.0
@@ -55,7 +55,7 @@ settle-requires c =
     let p = c.self.inside in
     let fit = subst (λ (v : TypedJournal). IsFit v.types c.args.event) (sym c.self.view_is) c.requires in
     subst (IsOpenJournal p.types) (sym c.in-Ok.ensures.ok)
-    (kept_came p.types p.journal c.self.invariant.0 c.self.invariant.1 c.args.event fit c.in_default.ensures.none (omega (arith, c.self.invariant.0.few, c.accepted.ensures, c.if-accepted-eq-MOST_EVENTS.false)))
+    (kept_came p.types p.journal c.self.invariant.0 c.self.invariant.1 c.args.event fit c.in_default.ensures.none (omega (arith, c.self.invariant.0.few, c.accepted.ensures, c.if-accepted-eq-MOST_PLAIN_EVENTS.false)))
 
 pub returns-in-Ok-clause-clash : goal.returns-in-Ok-clause-clash
 returns-in-Ok-clause-clash c =
@@ -65,7 +65,7 @@ returns-in-Ok-clause-clash c =
 pub returns-in-Ok-clause-new : goal.returns-in-Ok-clause-new
 returns-in-Ok-clause-new c =
     subst (λ (v : TypedJournal). (¬ HasEvent (came (reverse v.journal)) c.args.event.id) × (length (came (reverse v.journal)) < 10_000)) c.self.view_is
-    (c.in_default.ensures.none, omega (arith, c.self.invariant.0.few, c.accepted.ensures, c.if-accepted-eq-MOST_EVENTS.false))
+    (c.in_default.ensures.none, omega (arith, c.self.invariant.0.few, c.accepted.ensures, c.if-accepted-eq-MOST_PLAIN_EVENTS.false))
 
 pub returns-in-Err-clause-clash : goal.returns-in-Err-clause-clash
 returns-in-Err-clause-clash c =

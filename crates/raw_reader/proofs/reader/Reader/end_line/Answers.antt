@@ -9,6 +9,7 @@ use Rattle.raw_reader.specs.ReaderState.{ReaderState}
 use Rattle.raw_reader.specs.Texts.{Batches, line_of, line_bytes, IsFitLine}
 use Rattle.raw_reader.proofs.Exits.{at_ok, at_err}
 use Rattle.raw_reader.proofs.ReaderSteps.{goes_on, going, line_ended, bad_line, refused_at, out_at}
+use Rattle.raw_reader.proofs.Waiting.{keeps_same, keeps_more}
 use Rattle.raw_reader.proofs.reader.Reader.end_line.Goals as goal
 
 pub returns-in-Err-clause-stands : goal.returns-in-Err-clause-stands
@@ -17,7 +18,7 @@ returns-in-Err-clause-stands c fed taken stands =
     let on = goes_on reader fed taken c.requires.going stands in
     elim c.in-Err.ensures.err [
       | inl oom ↦ out_at reader fed taken on 10 c.refuse-in-Err.new.self (record { line = reader.lines + 1; cause = c.in-Err.cause })
-          (ap (λ (r : ReaderState). r.refusal) c.refuse-in-Err.ensures) oom (ap (λ (r : ReaderState). r.types) c.refuse-in-Err.ensures) (ap (λ (r : ReaderState). r.waiting) c.refuse-in-Err.ensures)
+          (ap (λ (r : ReaderState). r.refusal) c.refuse-in-Err.ensures) refl oom (ap (λ (r : ReaderState). r.types) c.refuse-in-Err.ensures) (ap (λ (r : ReaderState). r.waiting) c.refuse-in-Err.ensures)
       | inr wrong ↦ refused_at reader fed (fed ++ 10 ∷ []) taken on c.in-Err.cause c.refuse-in-Err.new.self c.refuse-in-Err.ensures
           (bad_line reader fed taken on c.in-Err.cause c.requires.room wrong.0 wrong.1)
     ]
@@ -32,7 +33,7 @@ returns-then-is_err-clause-stands c fed taken stands =
     let on = goes_on reader fed taken c.requires.going stands in
     let waiting = at_err c.add.result (sym c.if-is_err.ensures.value) c.add.ensures.err in
     out_at reader fed taken on 10 c.refuse.new.self (record { line = c.add.new.self.lines + 1; cause = Oom })
-    (ap (λ (r : ReaderState). r.refusal) c.refuse.ensures) refl
+    (ap (λ (r : ReaderState). r.refusal) c.refuse.ensures) (ap (λ (r : ReaderState). r.lines + 1) c.add.ensures.rest) refl
     (ap (λ (r : ReaderState). r.types) c.refuse.ensures ∙ ap (λ (r : ReaderState). r.types) c.add.ensures.rest)
     (ap (λ (r : ReaderState). r.waiting) c.refuse.ensures ∙ waiting)
 
@@ -62,3 +63,13 @@ returns-else-is_err-clause-stands c fed taken stands =
     (line_ended reader fed taken on later (line_of c.in-Ok.said) c.requires.room said.0 said.1
     (ap (λ (r : ReaderState). r.types) view) (ap (λ (r : ReaderState). r.size + 1) view) (ap (λ (r : ReaderState). r.lines + 1) view) c.clear.ensures.items
     (kept ∙ batches))
+
+pub returns-then-is_err-clause-kept : goal.returns-then-is_err-clause-kept
+returns-then-is_err-clause-kept c =
+    keeps_same c.args.self.now c.refuse.new.self (ap (λ (r : ReaderState). r.waiting) c.refuse.ensures ∙ at_err c.add.result (sym c.if-is_err.ensures.value) c.add.ensures.err)
+
+pub returns-else-is_err-clause-kept : goal.returns-else-is_err-clause-kept
+returns-else-is_err-clause-kept c =
+    let batches = at_ok c.add.result (sym c.if-is_err.ensures.value) c.add.ensures.ok in
+    let kept = ap (λ (r : ReaderState). batches_in r) c.self.view_is in
+    keeps_more c.args.self.now _ (batches_in c.args.self.now) (line_of c.in-Ok.said) refl (ap (λ (b : Batches). b.closed) (kept ∙ batches))

@@ -2,12 +2,13 @@ use Rattle.std.proofs.Common.{◌≡◌, ℕ, List, ◌++◌, Some}
 use Rattle.std.specs.Prelude.{take}
 use Rattle.causal_base.specs.declared.event.Event.{Event}
 use Rattle.raw_reader.specs.declared.cause.LineError.{LineError}
-use Rattle.raw_reader.specs.ReaderState.{StandsFor}
+use Rattle.raw_reader.specs.ReaderState.{HasRead, KeepsWaiting}
 use Rattle.raw_reader.proofs.reader.Reader.feed.Given as goal
 
 abbrev pub invariant-loop-byte : goal.invariant-loop-byte
 invariant-loop-byte l = record {
   types : l.self.types ≡ l.fn.self.types;
   again : (error : LineError) → l.fn.self.refusal ≡ Some error → l.self ≡ l.fn.self;
-  stands : (fed : List ℕ) (taken : List (List Event)) → StandsFor l.fn.self fed taken → StandsFor l.self (fed ++ take l.byte-index l.piece) taken;
+  kept : KeepsWaiting l.fn.self l.self;
+  stands : (fed : List ℕ) (taken : List (List Event)) → HasRead l.fn.self fed taken → HasRead l.self (fed ++ take l.byte-index l.piece) taken;
 }

@@ -18,3 +18,4 @@ pub mod StampLaws
 pub mod VectorLaws
 pub mod Lengths
 pub mod InTurnLaws
+pub mod OneTurn

@@ -17,7 +17,7 @@ pub use pair::{
 };
 pub use past::{past_stays, walk_stays_in_past};
 pub use prefix::{delivered_stays, legal_prefix};
-pub use settled::{enabled_stays, in_turn_is_settled, same_delivered, same_length};
+pub use settled::{enabled_stays, in_turn_is_one, in_turn_is_settled, same_delivered, same_length};
 pub use stamp::{
     level_is_in_range, members_are_few, own_history_has_clock, own_trace_is_member, stamp_is_one,
     stamp_stays,

@@ -53,3 +53,11 @@ pub fn in_turn_is_settled()
         → IsInTurn types limit lists journal → (collector : ℕ)
         → HasEnded (reverse journal) collector ↔ (collector < length lists) }
 {}
+
+/// The journal that one thread makes of lists of events, in turn, is one.
+pub fn in_turn_is_one()
+    ensures { (types : TypeTable) (limit : ℕ) (lists : List (List Event))
+        (journal other : List Entry)
+        → IsInTurn types limit lists journal → IsInTurn types limit lists other
+        → journal ≡ other }
+{}

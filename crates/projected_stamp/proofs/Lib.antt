@@ -1,0 +1,7 @@
+mod Searches
+mod Aboves
+mod StampsOf
+mod Links
+mod Empties
+mod Entries
+mod Additions

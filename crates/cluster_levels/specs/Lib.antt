@@ -1,0 +1,4 @@
+pub mod Sizes
+pub mod Tallies
+pub mod Clusters
+pub mod Levels

@@ -12,7 +12,8 @@ use Rattle.causal_base.specs.Asked.{SaysWhetherBefore}
 use Rattle.causal_base.specs.PlainList.{IsOpenJournal}
 use Rattle.causal_base.proofs.Pasts.{came_fit, delivered_came}
 use Rattle.causal_base.proofs.Numbered.{same_event}
-use Rattle.causal_base.proofs.Ready.{delivered_numbered, delivered_from_number, number_from_delivered, type_in_range}
+use Rattle.causal_base.proofs.LegalPasts.{delivered_numbered, delivered_from_number, number_from_delivered}
+use Rattle.causal_base.proofs.Ready.{type_in_range}
 
 module _ (types : TypeTable) (journal : List Entry) (kept : IsOpenJournal types journal) where
   -- an event that came has a trace that is counted

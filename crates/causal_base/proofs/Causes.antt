@@ -22,7 +22,7 @@ use Rattle.causal_base.proofs.Members.{Contains-cons, Contains-here, Contains-th
 use Rattle.causal_base.proofs.Numbered.{IsNumbered, number_within}
 use Rattle.causal_base.proofs.Histories.{Contains-there_events, same_kind, reaches_back}
 use Rattle.causal_base.proofs.Pasts.{came_fit, causal, delivery_of-one, delivery_of-two, delivered_came}
-use Rattle.causal_base.proofs.Ready.{delivered_numbered}
+use Rattle.causal_base.proofs.LegalPasts.{delivered_numbered}
 use Rattle.causal_base.proofs.Reaching.{reaches_step, reaches_on, reaches_among}
 use Rattle.causal_base.proofs.Newest.{Contains-newest, Contains-split, pairs_swapped, newest_reach, goes_by_source}
 

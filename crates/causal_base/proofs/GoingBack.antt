@@ -21,7 +21,7 @@ use Rattle.causal_base.proofs.Ids.{make_id, event_of-member}
 use Rattle.causal_base.proofs.Members.{Contains-cons, Contains-here, Contains-there, Contains-one, Contains-nil}
 use Rattle.causal_base.proofs.Numbered.{number_within}
 use Rattle.causal_base.proofs.ClockLimits.{reaches_later, clock_from_limit}
-use Rattle.causal_base.proofs.Ready.{delivered_numbered}
+use Rattle.causal_base.proofs.LegalPasts.{delivered_numbered}
 use Rattle.causal_base.proofs.Pasts.{came_fit, causal}
 use Rattle.causal_base.proofs.Journals.{reverse-push, came-append}
 use Rattle.causal_base.proofs.Causes.{legal_older, gone_event, pair_events, back_over_entry_unmarked, back_over_entry_marked, raises_alone, raises_together}

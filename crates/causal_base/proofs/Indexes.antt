@@ -1,11 +1,10 @@
 use Rattle.std.proofs.Common.{◌≡◌, ◌≢◌, ◌<◌, ◌+◌, ℕ, suc, zero, List, [], ◌∷◌, ◌++◌, reverse, refl, sym, ◌∙◌, ap, subst, Option, Some, None, true, false, cond, arith, inl, inr, set}
 use Rattle.std.specs.Prelude.{Contains, IfSome, IfNone, IsSome, slice_get, length}
-use Rattle.std.specs.Option.{option_map}
 use Rattle.std.specs.Borrow.{Bor}
 use Rattle.std.specs.BTreeMap.{BTreeMap, get, Updates, is_at}
 use Rattle.std.specs.Cmp.{Equal-is}
 use Rattle.std.specs.Ordering.{nat_cmp}
-use Rattle.std.specs.Prelude.{is_some, option_to_list, option_and_then, slice_index, slice_set}
+use Rattle.std.specs.Prelude.{is_some, slice_index, slice_set}
 use Rattle.std.proofs.lemmas.Bool.{cases_eq}
 use Rattle.std.proofs.lemmas.List.{get_or-set_same, get_or-set_other}
 use Rattle.std.proofs.lemmas.Map.Lookups.{CmpEqualImpliesEq, exact_pairs, exact_unsigned}
@@ -13,11 +12,11 @@ use Rattle.causal_base.specs.declared.entry.Entry.{Entry}
 use Rattle.causal_base.specs.declared.entry.Entry.TheVariants.{Came, Gone, Pair}
 use Rattle.causal_base.specs.declared.event.Event.{Event}
 use Rattle.causal_base.specs.declared.event_id.EventId.{EventId}
-use Rattle.causal_base.specs.History.{count_on, alone, together, all_events}
-use Rattle.causal_base.specs.Past.{came, deliveries, delivered, event_of, HasEvent}
+use Rattle.causal_base.specs.History.{count_on}
+use Rattle.causal_base.specs.Past.{came, delivered, event_of, HasEvent}
 use Rattle.causal_base.specs.Index.{id_cmp, CameAt, IsIndexOf}
 use Rattle.causal_base.proofs.Ids.{make_id, event_of-member}
-use Rattle.causal_base.proofs.Journals.{came_from_place, reverse-push}
+use Rattle.causal_base.proofs.Journals.{came_from_place, delivered-gone, delivered-pair, reverse-push}
 use Rattle.causal_base.proofs.Members.{Contains-cons}
 use Rattle.causal_base.proofs.Numbered.{count_on-same, count_on-other}
 
@@ -74,7 +73,7 @@ IsIndexOf-nil places counts none zeros = record {
 }
 
 -- the counts after one more event of its trace
-counts_next : (counts : List ℕ) (es : List Event) → length counts ≡ 256 → ((trace : ℕ) → trace < 256 → slice_index counts trace ≡ count_on trace es) → (id : EventId) (e : Event) → e.id ≡ id → id.trace < 256 → (trace : ℕ) → trace < 256 → slice_index (slice_set counts id.trace (slice_index counts id.trace + 1)) trace ≡ count_on trace (e ∷ es)
+pub counts_next : (counts : List ℕ) (es : List Event) → length counts ≡ 256 → ((trace : ℕ) → trace < 256 → slice_index counts trace ≡ count_on trace es) → (id : EventId) (e : Event) → e.id ≡ id → id.trace < 256 → (trace : ℕ) → trace < 256 → slice_index (slice_set counts id.trace (slice_index counts id.trace + 1)) trace ≡ count_on trace (e ∷ es)
 counts_next counts es size agree id e is below trace bound = elim (cases_eq trace id.trace) [
   | inl same ↦
       ap (λ t. slice_index (set counts id.trace (slice_index counts id.trace + 1)) t) same
@@ -114,11 +113,6 @@ module _ (journal : List Entry) (places : BTreeMap EventId ℕ) (counts : List �
     accepted_count = (ap (λ n. n + 1) index.accepted_count ∙ omega arith) ∙ ap (λ past. length (came past)) (sym (reverse-push journal (Came 0 e)));
   }
 
-  delivered-gone : (id : EventId) (e : Event) → event_of (came (reverse journal)) id ≡ Some e → delivered (reverse (journal ++ Gone id ∷ [])) ≡ e ∷ delivered (reverse journal)
-  delivered-gone id e found =
-      ap delivered (reverse-push journal (Gone id))
-      ∙ ap (λ o. all_events (option_to_list (option_map alone o) ++ deliveries (reverse journal))) found
-
   -- the index after an event was delivered
   pub IsIndexOf-gone : (id : EventId) (e : Event) → event_of (came (reverse journal)) id ≡ Some e → id.trace < 256 → length counts ≡ 256 → IsIndexOf (journal ++ Gone id ∷ []) places (slice_set counts id.trace (slice_index counts id.trace + 1)) accepted
   IsIndexOf-gone id e found below size = record {
@@ -126,15 +120,9 @@ module _ (journal : List Entry) (places : BTreeMap EventId ℕ) (counts : List �
     complete = λ x there. index.complete x (subst (λ past. Contains (came past) x) (reverse-push journal (Gone id)) there);
     delivered_counts = λ trace bound.
         counts_next counts (delivered (reverse journal)) size index.delivered_counts id e (event_of-member (came (reverse journal)) id e found).1 below trace bound
-        ∙ ap (count_on trace) (sym (delivered-gone id e found));
+        ∙ ap (count_on trace) (sym (delivered-gone journal id e found));
     accepted_count = index.accepted_count ∙ ap (λ past. length (came past)) (sym (reverse-push journal (Gone id)));
   }
-
-  delivered-pair : (a b : EventId) (x y : Event) → event_of (came (reverse journal)) a ≡ Some x → event_of (came (reverse journal)) b ≡ Some y → delivered (reverse (journal ++ Pair a b ∷ [])) ≡ y ∷ x ∷ delivered (reverse journal)
-  delivered-pair a b x y found_a found_b =
-      ap delivered (reverse-push journal (Pair a b))
-      ∙ (ap (λ o. all_events (option_to_list (option_and_then (λ v. option_map (together v) (event_of (came (reverse journal)) b)) o) ++ deliveries (reverse journal))) found_a
-      ∙ ap (λ o. all_events (option_to_list (option_map (together x) o) ++ deliveries (reverse journal))) found_b)
 
   -- the index after two partners were delivered
   pub IsIndexOf-pair : (a b : EventId) (x y : Event) → event_of (came (reverse journal)) a ≡ Some x → event_of (came (reverse journal)) b ≡ Some y → a.trace < 256 → b.trace < 256 → length counts ≡ 256
@@ -147,6 +135,6 @@ module _ (journal : List Entry) (places : BTreeMap EventId ℕ) (counts : List �
         counts_next between (x ∷ delivered (reverse journal)) size_too
         (λ t within. ap (λ cs. slice_index cs t) is ∙ counts_next counts (delivered (reverse journal)) size index.delivered_counts a x (event_of-member (came (reverse journal)) a x found_a).1 below_a t within)
         b y (event_of-member (came (reverse journal)) b y found_b).1 below_b trace bound
-        ∙ ap (count_on trace) (sym (delivered-pair a b x y found_a found_b));
+        ∙ ap (count_on trace) (sym (delivered-pair journal a b x y found_a found_b));
     accepted_count = index.accepted_count ∙ ap (λ past. length (came past)) (sym (reverse-push journal (Pair a b)));
   }

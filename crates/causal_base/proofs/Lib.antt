@@ -13,6 +13,7 @@ pub mod Offers
 pub mod Reaching
 pub mod Newest
 pub mod Partners
+pub mod LegalPasts
 pub mod ClockLimits
 pub mod Causes
 pub mod GoingBack

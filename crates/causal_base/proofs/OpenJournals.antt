@@ -1,6 +1,4 @@
-use Rattle.std.proofs.Common.{◌≡◌, ◌<◌, ◌≤◌, ◌*◌, ℕ, inl, inr, length, List, [], ◌∷◌, ◌++◌, reverse, sym, ◌∙◌, ap, subst, arith, Some, length-append}
-use Rattle.std.specs.Prelude.{option_to_list, option_and_then}
-use Rattle.std.specs.Option.{option_map}
+use Rattle.std.proofs.Common.{◌≡◌, ◌<◌, ◌≤◌, ◌*◌, ℕ, inl, inr, length, List, [], ◌∷◌, ◌++◌, reverse, sym, ap, subst, arith, Some, length-append}
 use Rattle.causal_base.specs.declared.block.Block.TheVariants.{One, Two}
 use Rattle.causal_base.specs.declared.entry.Entry.{Entry}
 use Rattle.causal_base.specs.declared.entry.Entry.TheVariants.{Came, Gone, Pair, Ended}
@@ -8,15 +6,14 @@ use Rattle.causal_base.specs.declared.event.Event.{Event}
 use Rattle.causal_base.specs.declared.event_id.EventId.{EventId}
 use Rattle.causal_base.specs.Types.{TypeTable}
 use Rattle.causal_base.specs.Event.{IsFit}
-use Rattle.causal_base.specs.History.{alone, together, all_events, count_on}
-use Rattle.causal_base.specs.Past.{came, event_of, HasEvent, deliveries, delivered, HasEnded, IsNext, IsLegalPast}
+use Rattle.causal_base.specs.History.{count_on}
+use Rattle.causal_base.specs.Past.{came, event_of, HasEvent, delivered, HasEnded, IsNext, IsLegalPast}
 use Rattle.causal_base.specs.Journal.{IsSettled}
 use Rattle.causal_base.specs.PlainList.{IsOpenJournal}
 use Rattle.causal_base.proofs.Members.{Contains-cons}
 use Rattle.causal_base.proofs.Pasts.{came_fit, delivery_of-one, delivery_of-two}
-use Rattle.causal_base.proofs.Ready.{ready_from_enabled, length-delivered, length-delivered-lt, count-le-came}
-use Rattle.causal_base.proofs.Partners.{AreNextPartners, partners_from_enabled}
-use Rattle.causal_base.proofs.Journals.{reverse-push}
+use Rattle.causal_base.proofs.LegalPasts.{AreNextPartners, partners_from_enabled, ready_from_enabled, length-delivered, length-delivered-lt, count-le-came}
+use Rattle.causal_base.proofs.Journals.{delivered-gone, delivered-pair, reverse-push}
 
 module _ (types : TypeTable) (journal : List Entry) (kept : IsOpenJournal types journal) where
   -- there is room for what came and wasn't delivered
@@ -44,11 +41,6 @@ module _ (types : TypeTable) (journal : List Entry) (kept : IsOpenJournal types 
         let fewer = length-delivered-lt types (reverse journal) kept.legal e.0 e.1 e.3 in
         omega (arith, fewer, kept.balance)
 
-    delivered-gone : delivered (reverse (journal ++ Gone id ∷ [])) ≡ next_event.0 ∷ delivered (reverse journal)
-    delivered-gone =
-        ap delivered (reverse-push journal (Gone id))
-        ∙ ap (λ o. all_events (option_to_list (option_map alone o) ++ deliveries (reverse journal))) next_event.1
-
     -- the journal after the next event was delivered
     pub kept_gone : IsOpenJournal types (journal ++ Gone id ∷ [])
     kept_gone =
@@ -59,7 +51,7 @@ module _ (types : TypeTable) (journal : List Entry) (kept : IsOpenJournal types 
           open_yet = λ ended. elim (Contains-cons (Gone id) (reverse journal) (Ended 0) (subst (λ p. HasEnded p 0) past ended)) [ inl is ↦ cc | inr before ↦ kept.open_yet before ];
           balance =
               let size = length-append journal (Gone id ∷ []) in
-              let gone = ap length delivered-gone in
+              let gone = ap length (delivered-gone journal id next_event.0 next_event.1) in
               let same = ap (λ p. length (came p)) past in
               omega (arith, size, gone, same, kept.balance);
           few = let same = ap (λ p. length (came p)) past in omega (arith, same, kept.few);
@@ -96,12 +88,6 @@ module _ (types : TypeTable) (journal : List Entry) (kept : IsOpenJournal types 
         let fewer = length-delivered-lt types (reverse journal) kept.legal p.0 p.4.first_came p.4.first_next in
         omega (arith, fewer, kept.balance)
 
-    delivered-pair : delivered (reverse (journal ++ Pair a b ∷ [])) ≡ next_pair.1 ∷ next_pair.0 ∷ delivered (reverse journal)
-    delivered-pair =
-        ap delivered (reverse-push journal (Pair a b))
-        ∙ (ap (λ o. all_events (option_to_list (option_and_then (λ v. option_map (together v) (event_of (came (reverse journal)) b)) o) ++ deliveries (reverse journal))) next_pair.2
-        ∙ ap (λ o. all_events (option_to_list (option_map (together next_pair.0) o) ++ deliveries (reverse journal))) next_pair.3)
-
     -- the journal after the partners were delivered
     pub kept_pair : IsOpenJournal types (journal ++ Pair a b ∷ [])
     kept_pair =
@@ -112,7 +98,7 @@ module _ (types : TypeTable) (journal : List Entry) (kept : IsOpenJournal types 
           open_yet = λ ended. elim (Contains-cons (Pair a b) (reverse journal) (Ended 0) (subst (λ p. HasEnded p 0) past ended)) [ inl is ↦ cc | inr before ↦ kept.open_yet before ];
           balance =
               let size = length-append journal (Pair a b ∷ []) in
-              let gone = ap length delivered-pair in
+              let gone = ap length (delivered-pair journal a b next_pair.0 next_pair.1 next_pair.2 next_pair.3) in
               let same = ap (λ p. length (came p)) past in
               omega (arith, size, gone, same, kept.balance);
           few = let same = ap (λ p. length (came p)) past in omega (arith, same, kept.few);

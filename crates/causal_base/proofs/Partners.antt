@@ -4,41 +4,40 @@ use Rattle.std.specs.Option.{option_map}
 use Rattle.std.proofs.lemmas.Bool.{cases_lt}
 use Rattle.causal_base.specs.declared.block.Block.{Block}
 use Rattle.causal_base.specs.declared.block.Block.TheVariants.{One, Two}
-use Rattle.causal_base.specs.declared.entry.Entry.{Entry}
 use Rattle.causal_base.specs.declared.event.Event.{Event}
 use Rattle.causal_base.specs.declared.event_id.EventId.{EventId}
 use Rattle.causal_base.specs.Types.{TypeTable}
 use Rattle.causal_base.specs.Event.{Pairs}
-use Rattle.causal_base.specs.History.{together, count_on, IsNextOfTrace, IsReady, MayFollow}
-use Rattle.causal_base.specs.Past.{came, event_of, delivery_of, deliveries, delivered, IsEnabled, HasTrace, IsLegalPast}
+use Rattle.causal_base.specs.History.{EventBlock, together, all_events, count_on, IsNextOfTrace, IsReady, MayFollow}
+use Rattle.causal_base.specs.Past.{event_of, delivery_of, HasTrace, IsEnabledAmong, IsHistoryOf}
 use Rattle.causal_base.proofs.Ids.{same_id, event_of-member}
-use Rattle.causal_base.proofs.Pasts.{same_came, event_of-came, delivery_of-two}
+use Rattle.causal_base.proofs.Pasts.{delivery_of-two}
 use Rattle.causal_base.proofs.Newest.{pairs_swapped}
-use Rattle.causal_base.proofs.Ready.{number_from_delivered, ready_from_enabled}
+use Rattle.causal_base.proofs.Ready.{event_of-among, number_from_delivered_among, ready_from_enabled}
 
 -- two events that came are found by their ids
-pub pair_came : (types : TypeTable) (past : List Entry) → IsLegalPast types past → (a b : Event) → Contains (came past) a → Contains (came past) b → delivery_of (came past) (Two a.id b.id) ≡ Some (together a b)
-pair_came types past legal a b a_came b_came =
-    ap (λ o. option_and_then (λ x. option_map (together x) (event_of (came past) b.id)) o) (event_of-came types past legal a a_came)
-    ∙ ap (λ o. option_map (together a) o) (event_of-came types past legal b b_came)
+pub pair_came : (types : TypeTable) (events : List Event) (history : List EventBlock) → IsHistoryOf types events history → (a b : Event) → Contains events a → Contains events b → delivery_of events (Two a.id b.id) ≡ Some (together a b)
+pair_came types events history basis a b a_came b_came =
+    ap (λ o. option_and_then (λ x. option_map (together x) (event_of events b.id)) o) (event_of-among types events history basis a a_came)
+    ∙ ap (λ o. option_map (together a) o) (event_of-among types events history basis b b_came)
 
 -- two partners that came, each the next of its trace, the lower trace first
-pub record AreNextPartners (types : TypeTable) (past : List Entry) (x y : Event) : Type 0 where
-  pub first_came : Contains (came past) x
-  pub second_came : Contains (came past) y
-  pub first_next : IsNextOfTrace (delivered past) x
-  pub second_next : IsNextOfTrace (delivered past) y
+pub record AreNextPartners (types : TypeTable) (events : List Event) (history : List EventBlock) (x y : Event) : Type 0 where
+  pub first_came : Contains events x
+  pub second_came : Contains events y
+  pub first_next : IsNextOfTrace (all_events history) x
+  pub second_next : IsNextOfTrace (all_events history) y
   pub pairs : Pairs types x y
   pub lower : x.id.trace < y.id.trace
 
-module _ (types : TypeTable) (past : List Entry) (legal : IsLegalPast types past) where
+module _ (types : TypeTable) (events : List Event) (history : List EventBlock) (basis : IsHistoryOf types events history) where
   -- what is enabled as two are two such partners
-  pub partners_from_enabled : (a b : EventId) → IsEnabled types past (Two a b) → (x y : Event) × (x.id ≡ a) × (y.id ≡ b) × AreNextPartners types past x y
+  pub partners_from_enabled : (a b : EventId) → IsEnabledAmong types events history (Two a b) → (x y : Event) × (x.id ≡ a) × (y.id ≡ b) × AreNextPartners types events history x y
   partners_from_enabled a b enabled =
-      let found = delivery_of-two (came past) a b enabled.delivery enabled.came_in in
-      let first = event_of-member (came past) a found.0 found.2 in
-      let second = event_of-member (came past) b found.1 found.3 in
-      let follows = subst (MayFollow types (deliveries past)) found.4 enabled.may_follow in (
+      let found = delivery_of-two events a b enabled.delivery enabled.came_in in
+      let first = event_of-member events a found.0 found.2 in
+      let second = event_of-member events b found.1 found.3 in
+      let follows = subst (MayFollow types history) found.4 enabled.may_follow in (
         found.0,
         found.1,
         first.1,
@@ -54,29 +53,29 @@ module _ (types : TypeTable) (past : List Entry) (legal : IsLegalPast types past
       )
 
   -- on one trace one event is next
-  pub next_of_trace_is_one : (x y : Event) → Contains (came past) x → Contains (came past) y → IsNextOfTrace (delivered past) x → IsNextOfTrace (delivered past) y → x.id.trace ≡ y.id.trace → x ≡ y
+  pub next_of_trace_is_one : (x y : Event) → Contains events x → Contains events y → IsNextOfTrace (all_events history) x → IsNextOfTrace (all_events history) y → x.id.trace ≡ y.id.trace → x ≡ y
   next_of_trace_is_one x y came_x came_y next_x next_y trace =
-      same_came types past legal x y came_x came_y
-      (same_id x.id y.id trace (next_x ∙ (ap (λ t. count_on t (delivered past) + 1) trace ∙ sym next_y)))
+      basis.own_ids x y came_x came_y
+      (same_id x.id y.id trace (next_x ∙ (ap (λ t. count_on t (all_events history) + 1) trace ∙ sym next_y)))
 
   -- two partners that came, each the next of its trace, are enabled
-  pub enabled_from_partners : (x y : Event) → AreNextPartners types past x y → IsEnabled types past (Two x.id y.id)
+  pub enabled_from_partners : (x y : Event) → AreNextPartners types events history x y → IsEnabledAmong types events history (Two x.id y.id)
   enabled_from_partners x y both = record {
     delivery = together x y;
-    came_in = pair_came types past legal x y both.first_came both.second_came;
+    came_in = pair_came types events history basis x y both.first_came both.second_came;
     waiting = (not_gone y both.second_next, (not_gone x both.first_next, tt));
     may_follow = (both.first_next, both.second_next, both.pairs, both.lower);
   }
     where
-      not_gone : (e : Event) → IsNextOfTrace (delivered past) e → Contains (delivered past) e → ⊥
-      not_gone e next gone = let most = number_from_delivered types past legal e gone in omega (arith, most, next)
+      not_gone : (e : Event) → IsNextOfTrace (all_events history) e → Contains (all_events history) e → ⊥
+      not_gone e next gone = let most = number_from_delivered_among types events history basis e gone in omega (arith, most, next)
 
   -- what is enabled on the trace of an event that came and is next of it is that event, or a pair of it
-  pub enabled_with : (e : Event) → Contains (came past) e → IsNextOfTrace (delivered past) e → (block : Block) → IsEnabled types past block → HasTrace block e.id.trace → IsReady types (delivered past) e ⊎ ((p : Event) × Contains (came past) p × Pairs types e p × IsNextOfTrace (delivered past) p)
+  pub enabled_with : (e : Event) → Contains events e → IsNextOfTrace (all_events history) e → (block : Block) → IsEnabledAmong types events history block → HasTrace block e.id.trace → IsReady types (all_events history) e ⊎ ((p : Event) × Contains events p × Pairs types e p × IsNextOfTrace (all_events history) p)
   enabled_with e there next (One a) enabled on =
-      let x = ready_from_enabled types past legal a enabled in
+      let x = ready_from_enabled types events history basis a enabled in
       let trace : x.0.id.trace ≡ e.id.trace = ap (λ (i : EventId). i.trace) x.2 ∙ on in
-      inl (subst (IsReady types (delivered past)) (next_of_trace_is_one x.0 e x.1 there x.3 next trace) x.4)
+      inl (subst (IsReady types (all_events history)) (next_of_trace_is_one x.0 e x.1 there x.3 next trace) x.4)
   enabled_with e there next (Two a b) enabled on =
       let p = partners_from_enabled a b enabled in
       let both = p.4 in
@@ -92,7 +91,7 @@ module _ (types : TypeTable) (past : List Entry) (legal : IsLegalPast types past
       ]
 
   -- such an event and its partner are enabled, the lower trace first
-  pub enabled_pair : (e p : Event) → Contains (came past) e → Contains (came past) p → IsNextOfTrace (delivered past) e → IsNextOfTrace (delivered past) p → Pairs types e p → ((e.id.trace < p.id.trace) × IsEnabled types past (Two e.id p.id)) ⊎ ((p.id.trace < e.id.trace) × IsEnabled types past (Two p.id e.id))
+  pub enabled_pair : (e p : Event) → Contains events e → Contains events p → IsNextOfTrace (all_events history) e → IsNextOfTrace (all_events history) p → Pairs types e p → ((e.id.trace < p.id.trace) × IsEnabledAmong types events history (Two e.id p.id)) ⊎ ((p.id.trace < e.id.trace) × IsEnabledAmong types events history (Two p.id e.id))
   enabled_pair e p e_there p_there e_next p_next pairs = elim (cases_lt e.id.trace p.id.trace) [
     | inl lower ↦ inl (lower, enabled_from_partners e p (record { first_came = e_there; second_came = p_there; first_next = e_next; second_next = p_next; pairs = pairs; lower = lower }))
     | inr upper ↦
@@ -102,9 +101,9 @@ module _ (types : TypeTable) (past : List Entry) (legal : IsLegalPast types past
   ]
 
   -- an enabled block on a trace has an event that came and is the next of it
-  pub enabled_event : (block : Block) → IsEnabled types past block → (trace : ℕ) → HasTrace block trace → (e : Event) × Contains (came past) e × (e.id.trace ≡ trace) × IsNextOfTrace (delivered past) e
+  pub enabled_event : (block : Block) → IsEnabledAmong types events history block → (trace : ℕ) → HasTrace block trace → (e : Event) × Contains events e × (e.id.trace ≡ trace) × IsNextOfTrace (all_events history) e
   enabled_event (One a) enabled trace on =
-      let x = ready_from_enabled types past legal a enabled in
+      let x = ready_from_enabled types events history basis a enabled in
       (x.0, x.1, ap (λ (i : EventId). i.trace) x.2 ∙ on, x.3)
   enabled_event (Two a b) enabled trace on =
       let p = partners_from_enabled a b enabled in

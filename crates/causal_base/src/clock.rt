@@ -8,6 +8,7 @@ ghost use Rattle.causal_base.specs.Journal.{IsLegal};
 ghost use Rattle.causal_base.specs.Clocks.{HasClocks};
 ghost use Rattle.causal_base.specs.ClockWalks.{is_within, GoesBack, Raises, RaisesMate, TellsReach};
 
+use crate::accepted::Accepted;
 use crate::entry::Entry;
 use crate::event_id::EventId;
 use crate::indexed_journal::IndexedJournal;

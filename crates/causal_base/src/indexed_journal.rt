@@ -5,6 +5,7 @@ ghost use Rattle.causal_base.specs.History.{count_on};
 ghost use Rattle.causal_base.specs.Past.{came, delivered, event_of, HasEvent};
 ghost use Rattle.causal_base.specs.Index.{IsIndexOf};
 
+use crate::accepted::Accepted;
 use crate::entry::Entry;
 use crate::event::Event;
 use crate::event_id::EventId;
@@ -64,26 +65,6 @@ impl IndexedJournal {
         self.accepted
     }
 
-    /// How many events of a trace were delivered.
-    pub fn delivered_on(&self, trace: u32) -> u32
-        requires { trace < MOST_TRACES }
-        ensures { result ≡ count_on trace (delivered (reverse self.now)) }
-    {
-        self.counts[trace as usize]
-    }
-
-    /// The event with this id, if it came.
-    pub fn event(&self, id: EventId) -> Option<&Event>
-        ensures some { IfSome result (λ e. Contains (came (reverse self.now)) e.now
-            × (e.now.id ≡ id)) }
-        ensures none { IfNone result (HasEvent (came (reverse self.now)) id → ⊥) }
-    {
-        match self.places.get(&id) {
-            Some(place) => event_at(&self.entries, *place),
-            None => None,
-        }
-    }
-
     /// Adds an event that comes from collector 0, and takes the room for its delivery. Its id is
     /// new.
     pub fn push_came(&mut self, event: Event) -> Result<(), AllocError>
@@ -128,6 +109,26 @@ impl IndexedJournal {
         self.entries.push_reserved(Entry::Pair(first, second));
         self.counts[first.trace as usize] += 1;
         self.counts[second.trace as usize] += 1;
+    }
+}
+
+impl Accepted for IndexedJournal {
+    ghost use Rattle.std.specs.Prelude.{reverse};
+    ghost use Rattle.causal_base.specs.Past.{came, deliveries};
+
+    ghost came = { λ journal. came (reverse journal) };
+
+    ghost history = { λ journal. deliveries (reverse journal) };
+
+    fn delivered_on(&self, trace: u32) -> u32 {
+        self.counts[trace as usize]
+    }
+
+    fn event(&self, id: EventId) -> Option<&Event> {
+        match self.places.get(&id) {
+            Some(place) => event_at(&self.entries, *place),
+            None => None,
+        }
     }
 }
 

@@ -6,10 +6,12 @@
 //! causes, as a yardstick for all that is faster.
 #![tactic(auto)]
 
+pub use accepted::Accepted;
 pub use answer::Answer;
 pub use block::Block;
 pub use book::Book;
 pub use causal::Causal;
+pub use enabled::enabled_on;
 pub use entry::{Entry, EntryRef};
 pub use event::Event;
 pub use event_id::EventId;
@@ -18,7 +20,8 @@ pub use fitting::{fits, pairs};
 pub use items::{Counts, Ids, Items, Parts, Tuples};
 pub use kind::Kind;
 pub use limits::{
-    MOST_EVENTS, MOST_NUMBER, MOST_PLAIN_EVENTS, MOST_TEXT, MOST_TRACES, MOST_TYPES, NUMBER_BOUND,
+    MOST_COLLECTORS, MOST_EVENTS, MOST_NUMBER, MOST_PLAIN_EVENTS, MOST_TEXT, MOST_TRACES,
+    MOST_TYPES, NUMBER_BOUND,
 };
 pub use plain::Plain;
 pub use refusal::Refusal;
@@ -28,6 +31,7 @@ pub use text::Text;
 pub use type_row::TypeRow;
 pub use types::Types;
 
+mod accepted;
 mod answer;
 mod block;
 mod book;

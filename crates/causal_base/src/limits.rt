@@ -15,6 +15,9 @@ pub const MOST_EVENTS: u32 = 400_000;
 /// How many bytes the text of an event has at most.
 pub const MOST_TEXT: usize = 200;
 
+/// How many collectors there are at most.
+pub const MOST_COLLECTORS: u32 = 16;
+
 /// What each number that is read is below: 10^18.
 pub const NUMBER_BOUND: u64 = 1_000_000_000_000_000_000;
 

@@ -1,7 +1,7 @@
 ghost use Rattle.std.specs.Prelude.{◌≡◌, ◌≢◌, ◌⊎◌, ◌+◌, ◌<◌, ◌≤◌, ◌↔◌, [], ◌∷◌, ◌++◌, List, length, reverse, Contains, IfOk, IfSome, IfNone, OnOk, OnErr};
 ghost use Rattle.causal_base.specs.declared.entry.Entry.TheVariants.{Came, Gone};
 ghost use Rattle.causal_base.specs.Event.{IsFit};
-ghost use Rattle.causal_base.specs.Past.{came, delivered, HasEvent};
+ghost use Rattle.causal_base.specs.Past.{came, delivered, HasEvent, HasNoNext, IsNext};
 ghost use Rattle.causal_base.specs.Journal.{came_by, delivered_by};
 ghost use Rattle.causal_base.specs.InTurn.{SettlesTo};
 ghost use Rattle.causal_base.specs.Asked.{IsBeforeAnswer};
@@ -10,11 +10,12 @@ ghost use Rattle.causal_base.specs.Clocks.{HasClock};
 ghost use Rattle.causal_base.specs.Walks.{Reaches};
 ghost use Rattle.causal_base.specs.declared.event.Event.{Event};
 
+use crate::accepted::Accepted;
 use crate::answer::Answer;
 use crate::block::Block;
 use crate::causal::Causal;
 use crate::clock::write_clock;
-use crate::enabled::next;
+use crate::enabled::enabled_on;
 use crate::event::Event;
 use crate::event_id::EventId;
 use crate::fitting::pairs;
@@ -221,4 +222,18 @@ fn settle(types: &Types, journal: &mut IndexedJournal)
             Block::Two(first, second) => journal.push_pair(first, second),
         }
     }
+}
+
+/// Next, or none where nothing is enabled.
+fn next(types: &Types, journal: &IndexedJournal) -> Option<Block>
+    requires { IsOpenJournal types.now journal.now }
+    ensures some { IfSome result (λ block. IsNext types.now (reverse journal.now) block) }
+    ensures none { IfNone result (HasNoNext types.now (reverse journal.now)) }
+{
+    for trace in 0..types.traces() {
+        if let Some(block) = enabled_on(types, journal, trace) {
+            return Some(block);
+        }
+    }
+    None
 }

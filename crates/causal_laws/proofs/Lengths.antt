@@ -9,7 +9,7 @@ use Rattle.causal_base.specs.declared.kind.Kind.TheVariants.{Unary, Send, Receiv
 use Rattle.causal_base.specs.Types.{TypeTable, kind_of}
 use Rattle.causal_base.specs.History.{EventBlock, alone, together, all_events, IsCausal}
 use Rattle.causal_base.specs.Past.{came, deliveries, delivered, HasEnded, HasNoNext, IsLegalPast}
-use Rattle.causal_base.proofs.CallerLemmas.{Contains-cons, Contains-here, Contains-there, Contains-nil, IsNumbered, number_within, numbered, causal, ready_no_sync, count_by-cons, without}
+use Rattle.causal_base.proofs.CallerLemmas.{Contains-cons, Contains-here, Contains-there, Contains-nil, IsNumbered, history_of_past, number_within, numbered, causal, ready_no_sync, count_by-cons, without}
 use Rattle.causal_laws.proofs.Enabled.{settled_has}
 
 -- no element stands twice
@@ -153,8 +153,8 @@ module _ (types : TypeTable) where
       let other_causal = causal types other other_legal in
       let its_distinct = numbered_are_distinct (delivered past) (numbered types (deliveries past) its_causal) in
       let other_distinct = numbered_are_distinct (delivered other) (numbered types (deliveries other) other_causal) in
-      let has = λ (e : Event) (inside : Contains (delivered past) e). settled_has types other past other_legal legal other_settled forth e inside in
-      let has_too = λ (e : Event) (inside : Contains (delivered other) e). settled_has types past other legal other_legal settled back e inside in
+      let has = λ (e : Event) (inside : Contains (delivered past) e). settled_has types (came other) (deliveries other) (came past) (deliveries past) (history_of_past types other other_legal) (history_of_past types past legal) other_settled forth e inside in
+      let has_too = λ (e : Event) (inside : Contains (delivered other) e). settled_has types (came past) (deliveries past) (came other) (deliveries other) (history_of_past types past legal) (history_of_past types other other_legal) settled back e inside in
       let gone_same = length-same (delivered past) (delivered other) its_distinct other_distinct has has_too in
       let sync_same = count_by-same (is_sync types) (delivered past) (delivered other) its_distinct other_distinct has has_too in
       let one = count_of_deliveries types (deliveries past) its_causal in

@@ -9,10 +9,10 @@ use Rattle.causal_base.specs.declared.entry.Entry.{Entry}
 use Rattle.causal_base.specs.declared.entry.Entry.TheVariants.{Came, Gone, Pair, Ended}
 use Rattle.causal_base.specs.declared.event.Event.{Event}
 use Rattle.causal_base.specs.Types.{TypeTable}
-use Rattle.causal_base.specs.Past.{IsLegalPast, IsNext, MayStand}
+use Rattle.causal_base.specs.Past.{came, deliveries, IsLegalPast, IsNext, MayStand}
 use Rattle.causal_base.specs.Journal.{IsLegal, IsSettled}
 use Rattle.causal_base.specs.InTurn.{DeliversSomething, SettlesTo, TakesInTurn, TakesAllInTurn}
-use Rattle.causal_base.proofs.CallerLemmas.{reverse-push}
+use Rattle.causal_base.proofs.CallerLemmas.{history_of_past, reverse-push}
 use Rattle.causal_laws.proofs.Blocks.{next_is_one}
 use Rattle.causal_laws.proofs.Prefixes.{prefix_is_legal}
 
@@ -32,10 +32,10 @@ same_entry types past legal (Came c e) y dx dy sx sy = absurd dx
 same_entry types past legal (Ended c) y dx dy sx sy = absurd dx
 same_entry types past legal x (Came c e) dx dy sx sy = absurd dy
 same_entry types past legal x (Ended c) dx dy sx sy = absurd dy
-same_entry types past legal (Gone a) (Gone b) dx dy sx sy = (let is = next_is_one types past legal (One a) (One b) sx sy in cc)
-same_entry types past legal (Gone a) (Pair b c) dx dy sx sy = (let is = next_is_one types past legal (One a) (Two b c) sx sy in absurd cc)
-same_entry types past legal (Pair a b) (Gone c) dx dy sx sy = (let is = next_is_one types past legal (Two a b) (One c) sx sy in absurd cc)
-same_entry types past legal (Pair a b) (Pair c d) dx dy sx sy = (let is = next_is_one types past legal (Two a b) (Two c d) sx sy in cc)
+same_entry types past legal (Gone a) (Gone b) dx dy sx sy = (let is = next_is_one types (came past) (deliveries past) (history_of_past types past legal) (One a) (One b) sx sy in cc)
+same_entry types past legal (Gone a) (Pair b c) dx dy sx sy = (let is = next_is_one types (came past) (deliveries past) (history_of_past types past legal) (One a) (Two b c) sx sy in absurd cc)
+same_entry types past legal (Pair a b) (Gone c) dx dy sx sy = (let is = next_is_one types (came past) (deliveries past) (history_of_past types past legal) (Two a b) (One c) sx sy in absurd cc)
+same_entry types past legal (Pair a b) (Pair c d) dx dy sx sy = (let is = next_is_one types (came past) (deliveries past) (history_of_past types past legal) (Two a b) (Two c d) sx sy in cc)
 
 module _ (types : TypeTable) where
   -- what stands next in a legal journal may stand there

@@ -7,6 +7,7 @@ pub use clock::{
     clock_tells_reach, partners_share_clock,
 };
 pub use cluster::{cluster_stays, clusters_grow, clusters_nest, clusters_part_traces, top_has_all};
+pub use delivery::clock_stays_among_deliveries;
 pub use entry::{bound_by_level, clock_is_greatest_of_entries, entry_is_found, walk_enters_above};
 pub use next::next_is_one;
 pub use number::{delivered_are_numbered, delivered_has_own_id, delivered_is_on_a_trace};
@@ -25,6 +26,7 @@ pub use stamp::{
 
 mod clock;
 mod cluster;
+mod delivery;
 mod entry;
 mod next;
 mod number;

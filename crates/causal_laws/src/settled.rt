@@ -3,25 +3,40 @@ ghost use Rattle.causal_base.specs.declared.block.Block.{Block};
 ghost use Rattle.causal_base.specs.declared.entry.Entry.{Entry};
 ghost use Rattle.causal_base.specs.declared.event.Event.{Event};
 ghost use Rattle.causal_base.specs.Types.{TypeTable};
-ghost use Rattle.causal_base.specs.History.{events_of};
+ghost use Rattle.causal_base.specs.History.{EventBlock, all_events, events_of};
 ghost use Rattle.causal_base.specs.InTurn.{IsInTurn};
-ghost use Rattle.causal_base.specs.Past.{IsEnabled, HasEnded};
+ghost use Rattle.causal_base.specs.Past.{HasEnded, HasNoNextAmong, IsEnabled, IsEnabledAmong, IsHistoryOf};
 ghost use Rattle.causal_base.specs.Journal.{IsLegal, IsSettled, came_by, delivered_by};
 
-/// A block that is enabled stays enabled until it is delivered, whatever else the journal goes on
-/// with.
+/// A block that is enabled stays enabled until it is delivered, whatever else comes and is
+/// delivered.
 pub fn enabled_stays()
-    ensures { (types : TypeTable) (journal more : List Entry) → IsLegal types (journal ++ more)
+    ensures among { (types : TypeTable) (few events : List Event) (before history : List EventBlock)
+        → IsHistoryOf types few before → IsHistoryOf types events history
+        → ((e : Event) → Contains few e → Contains events e)
+        → ((e : Event) → Contains (all_events before) e → Contains (all_events history) e)
+        → (block : Block) (enabled : IsEnabledAmong types few before block)
+        → IsEnabledAmong types events history block
+        ⊎ ((e : Event) → Contains (events_of enabled.delivery) e
+        → Contains (all_events history) e) }
+    ensures journal { (types : TypeTable) (journal more : List Entry)
+        → IsLegal types (journal ++ more)
         → (block : Block) (enabled : IsEnabled types (reverse journal) block)
         → IsEnabled types (reverse (journal ++ more)) block
         ⊎ ((e : Event) → Contains (events_of enabled.delivery) e
         → Contains (delivered_by (journal ++ more)) e) }
 {}
 
-/// Settled journals to which the same events came have delivered the same events, in whatever order
-/// they came.
+/// Where the same events came and nothing more can be delivered, the same events are delivered, in
+/// whatever order they came.
 pub fn same_delivered()
-    ensures { (types : TypeTable) (journal other : List Entry) → IsLegal types journal
+    ensures among { (types : TypeTable) (events others : List Event)
+        (history other : List EventBlock)
+        → IsHistoryOf types events history → IsHistoryOf types others other
+        → HasNoNextAmong types events history → HasNoNextAmong types others other
+        → ((e : Event) → Contains events e ↔ Contains others e)
+        → (e : Event) → Contains (all_events history) e ↔ Contains (all_events other) e }
+    ensures journal { (types : TypeTable) (journal other : List Entry) → IsLegal types journal
         → IsLegal types other
         → IsSettled types journal → IsSettled types other
         → ((e : Event) → Contains (came_by journal) e ↔ Contains (came_by other) e)

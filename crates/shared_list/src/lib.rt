@@ -3,7 +3,7 @@
 
 pub use piece::Piece;
 pub use shared_list::SharedList;
-pub use trace_lists::TraceLists;
+pub use trace_lists::{TraceLists, shares};
 
 mod piece;
 mod shared_list;

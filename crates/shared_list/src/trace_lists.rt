@@ -130,8 +130,8 @@ fn empty_lists(alloc: Global, count: u32) -> Result<Vec<SharedList<u32>>, AllocE
     Ok(lists)
 }
 
-/// A share of each list.
-fn shares(alloc: Global, lists: &[SharedList<u32>]) -> Result<Vec<SharedList<u32>>, AllocError>
+/// A share of each list. It fails where there is no memory.
+pub fn shares(alloc: Global, lists: &[SharedList<u32>]) -> Result<Vec<SharedList<u32>>, AllocError>
     ensures { IfOk result (λ shared. shared.items ≡ map unspared lists.now) }
 {
     let mut shared = Vec::with_capacity(alloc, lists.len())?;

@@ -5,7 +5,7 @@ use Rattle.causal_base.specs.declared.entry.Entry.TheVariants.{Came}
 use Rattle.causal_base.specs.declared.event.Event.{Event}
 use Rattle.causal_base.specs.Past.{came, HasEvent}
 use Rattle.causal_base.proofs.Indexes.{found_some, found_none, absent}
-use Rattle.causal_base.proofs.indexed_journal.IndexedJournal.event.Goals as goal
+use Rattle.causal_base.proofs.indexed_journal.IndexedJournalAccepted.event.Goals as goal
 
 pub returns-in-Some-clause-some : goal.returns-in-Some-clause-some
 returns-in-Some-clause-some c =

@@ -1,0 +1,14 @@
+use Rattle.std.proofs.Common.{◌≡◌, ◌≤◌, length}
+use Rattle.trace_queue.specs.Held.{count_held}
+use Rattle.journal.specs.Places.{HasSamePlaces}
+use Rattle.journal.proofs.index.catch_up.Given as goal
+
+abbrev pub invariant-loop-in_order : goal.invariant-loop-in_order
+invariant-loop-in_order l = record {
+  same : HasSamePlaces (record { in_order = l.initial.in_order.items; early = l.initial.early }) (record { in_order = l.in_order.items; early = l.early });
+  held : count_held l.early ≤ count_held l.initial.early;
+  queues : length l.early ≡ length l.initial.early;
+}
+
+abbrev pub decreases-loop-in_order : goal.decreases-loop-in_order
+decreases-loop-in_order l = count_held l.early

@@ -1,0 +1,4 @@
+pub mod Places
+pub mod Marks
+pub mod Store
+pub mod Delivered

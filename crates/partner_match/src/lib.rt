@@ -1,0 +1,8 @@
+//! Which traces wait for which events.
+#![tactic(auto)]
+
+pub use matcher::Matcher;
+
+mod matcher;
+#[cfg(test)]
+mod tests;

@@ -1,0 +1,22 @@
+//! Tests of what no clause says: that traces wait where memory is left, and that many that are the
+//! same in a row are one.
+
+use crate::Matcher;
+use causal_base::EventId;
+use std::test::Fail;
+
+#[test]
+fn traces_wait(rt: HostRuntime) -> Result<(), Fail> {
+    let mut matcher = Matcher::new(rt.alloc());
+    let on = EventId {
+        trace: 1,
+        number: 1,
+    };
+    for trace in [3, 3, 3, 5, 7, 8, 9, 9] {
+        matcher.wait(on, trace)?;
+    }
+    assert_eq!(rt; matcher.woken(on), [3, 5, 7, 8, 9].as_slice());
+    matcher.forget(on);
+    assert!(rt; matcher.woken(on).is_empty());
+    Ok(())
+}

@@ -1,0 +1,4 @@
+pub mod ClusterLists
+pub mod CallerLemmas
+pub mod Moments
+pub mod KeptLists

@@ -1,0 +1,4 @@
+pub mod Kept
+pub mod ClockRule
+pub mod Keeping
+pub mod Holding

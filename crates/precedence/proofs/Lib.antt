@@ -1,0 +1,8 @@
+mod Covering
+mod Bounds
+mod OwnMembers
+mod Lookups
+mod Takings
+mod Raising
+mod WholeClocks
+mod TwoEvents

@@ -1,0 +1,4 @@
+pub mod StampedJournal
+pub mod Walking
+pub mod Laws
+pub mod Relations

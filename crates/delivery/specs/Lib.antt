@@ -1,0 +1,3 @@
+pub mod TraceSets
+pub mod Leading
+pub mod Deliveries

@@ -1,0 +1,61 @@
+//! Which traces lead, told by a look at one trace, or at those that wait.
+
+ghost use Rattle.std.specs.Prelude.{◌≡◌, ◌<◌, ◌⊎◌, ℕ, reverse, Contains};
+ghost use Rattle.causal_base.specs.declared.block.Block.{Block};
+ghost use Rattle.causal_base.specs.declared.limits.TheConstants.{MOST_TRACES};
+ghost use Rattle.causal_base.specs.Past.{came, deliveries, HasTrace, IsEnabled, IsHistoryOf};
+ghost use Rattle.delivery.specs.Leading.{first_trace, Leads};
+ghost use Rattle.delivery.specs.TraceSets.{IsIn};
+
+use crate::trace_set::TraceSet;
+use causal_base::{Block, Types, enabled_on};
+use causal_laws::next_is_one;
+use journal::Journal;
+
+/// Adds to the set the trace that leads the enabled block with an event of this trace, if there is
+/// one.
+pub(crate) fn look(types: &Types, journal: &Journal, ready: &mut TraceSet, trace: u32)
+    requires { IsHistoryOf types.now (came (reverse journal.now))
+        (deliveries (reverse journal.now)) }
+    ensures kept { (other : ℕ) → other < MOST_TRACES → IsIn ready.old other → IsIn ready.new other }
+    ensures sound { (other : ℕ) → other < MOST_TRACES → IsIn ready.new other
+        → IsIn ready.old other
+        ⊎ Leads types.now (came (reverse journal.now)) (deliveries (reverse journal.now)) other }
+    ensures found { (block : Block) → IsEnabled types.now (reverse journal.now) block
+        → HasTrace block trace → IsIn ready.new (first_trace block) }
+{
+    next_is_one();
+    if trace >= types.traces() {
+        return;
+    }
+    if let Some(block) = enabled_on(types, journal, trace) {
+        ready.insert(trace_of(block));
+    }
+}
+
+/// Looks at each of these traces.
+pub(crate) fn look_at_each(types: &Types, journal: &Journal, ready: &mut TraceSet, traces: &[u32])
+    requires { IsHistoryOf types.now (came (reverse journal.now))
+        (deliveries (reverse journal.now)) }
+    ensures kept { (other : ℕ) → other < MOST_TRACES → IsIn ready.old other → IsIn ready.new other }
+    ensures sound { (other : ℕ) → other < MOST_TRACES → IsIn ready.new other
+        → IsIn ready.old other
+        ⊎ Leads types.now (came (reverse journal.now)) (deliveries (reverse journal.now)) other }
+    ensures found { (block : Block) (trace : ℕ) → IsEnabled types.now (reverse journal.now) block
+        → HasTrace block trace → Contains traces.now trace → IsIn ready.new (first_trace block) }
+{
+    // Reading the number of traces shows that the types are a table.
+    let _traces = types.traces();
+    for trace in traces {
+        look(types, journal, ready, *trace);
+    }
+}
+
+/// The trace with which a block leads.
+fn trace_of(block: Block) -> u32
+    ensures { result ≡ first_trace block }
+{
+    match block {
+        Block::One(id) | Block::Two(id, _) => id.trace,
+    }
+}

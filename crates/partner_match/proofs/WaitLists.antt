@@ -1,13 +1,14 @@
 -- Who waits, as the map from ids to lists has it.
-use Rattle.std.proofs.Common.{◌≡◌, ◌≢◌, ◌⊎◌, ◌↔◌, ℕ, List, [], ◌∷◌, map, refl, sym, ◌∙◌, ap, subst, inl, inr, None, Some, true, false, Option}
+use Rattle.std.proofs.Common.{◌≡◌, ◌≢◌, ◌≤◌, ◌⊎◌, ◌↔◌, ℕ, zero, suc, length, arith, List, [], ◌∷◌, map, refl, sym, ◌∙◌, ap, subst, inl, inr, None, Some, true, false, Option}
 use Rattle.std.specs.Prelude.{Contains}
 use Rattle.std.specs.BTreeMap.{is_at}
+use Rattle.std.specs.List.{insert}
 use Rattle.std.specs.Map.{lookup}
 use Rattle.std.specs.Option.{option_map, option_map_or}
 use Rattle.std.proofs.lemmas.Map.Made.{lookup-map_values}
 use Rattle.causal_base.specs.declared.event_id.EventId.{EventId}
 use Rattle.causal_base.specs.Index.{id_cmp}
-use Rattle.causal_base.proofs.CallerLemmas.{same_from_is_at, Contains-nil, Contains-one, Contains-here}
+use Rattle.causal_base.proofs.CallerLemmas.{same_from_is_at, Contains-cons, Contains-nil, Contains-one, Contains-here, Contains-there}
 use Rattle.partner_match.specs.Waiting.{Waits, waiting_for, WaitsToo}
 
 other_id : (a b : EventId) → b ≢ a → is_at (id_cmp a) b ≡ false
@@ -53,3 +54,25 @@ only_one trace other = (
   (λ inside. inr (sym (Contains-one trace other inside))),
   (λ either. elim either [ inl none ↦ absurd (Contains-nil other none) | inr is ↦ subst (λ t. Contains (trace ∷ []) t) (sym is) (Contains-here trace []) ]),
 )
+
+-- a list with a trace put in has those that it had, and that one
+pub put_in : (xs : List ℕ) (at trace other : ℕ) → at ≤ length xs → Contains (insert xs at trace) other ↔ (Contains xs other ⊎ (other ≡ trace))
+put_in xs zero trace other within = (
+  (λ inside. elim (Contains-cons trace xs other inside) [ inl is ↦ inr (sym is) | inr there ↦ inl there ]),
+  (λ either. elim either [ inl there ↦ Contains-there trace xs other there | inr is ↦ subst (λ t. Contains (trace ∷ xs) t) (sym is) (Contains-here trace xs) ]),
+)
+put_in [] (suc at) trace other within = absurd (omega (arith, within))
+put_in (x ∷ xs) (suc at) trace other within =
+    let rest = put_in xs at trace other (omega (arith, within)) in (
+      (λ inside. elim (Contains-cons x (insert xs at trace) other inside) [
+        | inl is ↦ inl (subst (λ t. Contains (x ∷ xs) t) is (Contains-here x xs))
+        | inr there ↦ elim (rest.0 there) [ inl old ↦ inl (Contains-there x xs other old) | inr is ↦ inr is ]
+      ]),
+      (λ either. elim either [
+        | inl old ↦ elim (Contains-cons x xs other old) [
+            | inl is ↦ subst (λ t. Contains (x ∷ insert xs at trace) t) is (Contains-here x (insert xs at trace))
+            | inr there ↦ Contains-there x (insert xs at trace) other (rest.1 (inl there))
+          ]
+        | inr is ↦ Contains-there x (insert xs at trace) other (rest.1 (inr is))
+      ]),
+    )

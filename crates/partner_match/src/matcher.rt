@@ -75,16 +75,15 @@ impl Matcher {
     }
 }
 
-/// Adds a trace to those that wait, where it isn't the last of them: many receives of one send in a
-/// row are one.
+/// Adds a trace to those that wait, where it isn't one of them. They are kept in rising order, so
+/// that many events of a trace that wait for one are looked for by halves and kept as one.
 fn add(traces: &mut SmallVec<u32, FEW_TRACES>, trace: u32) -> Result<(), AllocError>
     ensures ok { OnOk result ((other : ℕ) → Contains traces.new.items other
         ↔ (Contains traces.old.items other ⊎ (other ≡ trace))) }
     ensures err { OnErr result (traces.new ≡ traces.old) }
 {
-    if traces.as_slice().last() == Some(&trace) {
-        return Ok(());
+    if let Err(at) = traces.as_slice().binary_search(&trace) {
+        traces.insert(at, trace)?;
     }
-    traces.push(trace)?;
     Ok(())
 }

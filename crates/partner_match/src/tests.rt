@@ -1,5 +1,4 @@
-//! Tests of what no clause says: that traces wait where memory is left, and that many that are the
-//! same in a row are one.
+//! Tests of what no clause says: that traces wait where memory is left, each once.
 
 use crate::Matcher;
 use causal_base::EventId;
@@ -12,7 +11,7 @@ fn traces_wait(rt: HostRuntime) -> Result<(), Fail> {
         trace: 1,
         number: 1,
     };
-    for trace in [3, 3, 3, 5, 7, 8, 9, 9] {
+    for trace in [9, 3, 3, 7, 5, 3, 8, 9] {
         matcher.wait(on, trace)?;
     }
     assert_eq!(rt; matcher.woken(on), [3, 5, 7, 8, 9].as_slice());

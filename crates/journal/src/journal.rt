@@ -156,7 +156,8 @@ impl Journal {
     }
 
     /// The delivered events, as they are now. It copies one open block of events at most, and the
-    /// handles of the lists; it fails where there is no memory.
+    /// handles of the lists. It fails where there is no memory, or where more events of a trace are
+    /// delivered than came without a gap.
     pub fn share_delivered(&mut self, alloc: Global) -> Result<Delivered, AllocError>
         ensures shared { IfOk result (AreOfJournal self.old) }
         ensures same { self.new ≡ self.old }

@@ -10,4 +10,6 @@ pub use delivery::Delivery;
 
 mod delivery;
 mod looking;
+#[cfg(test)]
+mod tests;
 mod trace_set;

@@ -70,9 +70,9 @@ put_in (x ∷ xs) (suc at) trace other within =
       ]),
       (λ either. elim either [
         | inl old ↦ elim (Contains-cons x xs other old) [
-            | inl is ↦ subst (λ t. Contains (x ∷ insert xs at trace) t) is (Contains-here x (insert xs at trace))
-            | inr there ↦ Contains-there x (insert xs at trace) other (rest.1 (inl there))
-          ]
+          | inl is ↦ subst (λ t. Contains (x ∷ insert xs at trace) t) is (Contains-here x (insert xs at trace))
+          | inr there ↦ Contains-there x (insert xs at trace) other (rest.1 (inl there))
+        ]
         | inr is ↦ Contains-there x (insert xs at trace) other (rest.1 (inr is))
       ]),
     )

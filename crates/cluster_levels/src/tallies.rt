@@ -5,8 +5,7 @@ use causal_base::MOST_TRACES;
 use std::alloc::{AllocError, Global};
 use std::marker::Model;
 
-/// A square table of counts that saturate. Contracts see it as its width and the
-/// counts.
+/// A square table of counts that saturate. Contracts see it as its width and the counts.
 #[derive(Debug, Drop)]
 pub struct Tallies {
     width: u32,

@@ -4,8 +4,8 @@
 //! [`ClusterMembers`] keeps for each level and each trace the list of its cluster at some earlier
 //! moment, where one was asked for. Clusters only grow, so such a list is still that of the cluster
 //! exactly where it has as many traces as the cluster has now, and nothing that is kept need ever
-//! be marked as old. So what an event costs is a look at two numbers where its cluster hasn't
-//! grown, and a pass over the traces where it has.
+//! be marked as old. So what an event costs is a look at two numbers where the list is kept and the
+//! cluster hasn't grown since, and else a pass over the traces.
 //!
 //! An event's members are those right after its own merge. [`ClusterMembers::members_after`] gives
 //! them before the merge is done, and may be refused for want of memory; it keeps nothing, since

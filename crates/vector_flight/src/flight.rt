@@ -23,8 +23,8 @@ use std::mem;
 use std::num::NonZeroUsize;
 
 /// What is needed of delivered events for the clock of the next one: the newest clock of each trace,
-/// and the clocks of [`MOST_SENDS`] sends. Contracts see these, and how many deliveries can be kept
-/// without memory.
+/// and the clocks of at most [`MOST_SENDS`] sends, the most recently used. Contracts see these, and
+/// how many deliveries can be kept without memory.
 #[derive(Debug, Drop)]
 pub struct Flight {
     newest: Vec<Clock>,

@@ -68,6 +68,16 @@ impl Sizes {
         self.numbers[level as usize - 1]
     }
 
+    /// Equal sizes. It takes no memory.
+    pub fn copy(&self) -> Sizes
+        ensures { result ≡ self.now }
+    {
+        Sizes {
+            numbers: self.numbers,
+            levels: self.levels,
+        }
+    }
+
     /// The bound on the look-ups of a question.
     pub fn bound(&self) -> u64
         ensures { result ≡ bound_of self.now }

@@ -7,6 +7,8 @@ use Rattle.causal_base.specs.History.{EventBlock}
 use Rattle.causal_base.specs.Stamps.{delivers, history_of, members_of, newest_level}
 use Rattle.cluster_members.specs.Kept.{AreKept, KeptLists, cluster_of}
 
+pub use Rattle.cluster_members.proofs.ClusterLists.{traces_that-has}
+
 -- what is kept stays so with a communication more
 pub kept_grows : (clustering : Clustering) (so_far : List (ℕ × ℕ)) (more : ℕ × ℕ) (kept : KeptLists) → AreKept clustering so_far kept → AreKept clustering (more ∷ so_far) kept
 kept_grows clustering so_far more kept are = record {

@@ -2,7 +2,8 @@
 use Rattle.std.proofs.Common.{◌≡◌, ◌≤◌, ◌<◌, ◌-◌, ℕ, zero, suc, List, [], ◌∷◌, length, cond, Bool, true, false, inl, inr, refl, sym, ◌∙◌, ap, subst, arith, Some, get_or, not}
 use Rattle.std.specs.Prelude.{slice_get, slice_index, Contains, filter, reverse}
 use Rattle.std.proofs.lemmas.Bool.{cases_lt}
-use Rattle.std.proofs.lemmas.Option.{slice_get-get_or}
+use Rattle.std.specs.Option.{unwrap_or}
+use Rattle.std.proofs.lemmas.Option.{slice_get-get_or, slice_get_within}
 use Rattle.std.proofs.lemmas.List.{length-reverse, get_or-reverse}
 use Rattle.std.proofs.lemmas.List.Filters.{length-filter_both}
 use Rattle.causal_base.specs.declared.event.Event.{Event}
@@ -32,6 +33,18 @@ Contains-filter {A} test (y ∷ ys) x there passes =
         | inr rest ↦ Contains-filter test ys x rest passes
       ]
     ] refl
+
+-- and what it keeps passes
+passes_filter : {A : Type 0} (test : A → Bool) (xs : List A) (x : A) → Contains (filter test xs) x → test x ≡ true
+passes_filter test [] x there = absurd (Contains-nil x there)
+passes_filter {A} test (y ∷ ys) x there =
+    elim (test y) as (λ b. test y ≡ b → Contains (cond b (y ∷ filter test ys) (filter test ys)) x → test x ≡ true) [
+      | true ↦ λ first kept. elim (Contains-cons y (filter test ys) x kept) [
+        | inl same ↦ ap test (sym same) ∙ first
+        | inr rest ↦ passes_filter test ys x rest
+      ]
+      | false ↦ λ first kept. passes_filter test ys x kept
+    ] refl there
 
 length-numbers_below : (n : ℕ) → length (numbers_below n) ≡ n
 length-numbers_below zero = refl
@@ -100,6 +113,15 @@ module _ (w : StampedJournal) (laws : HasLaws w) (e : Event) (stamp : ClusterTim
       let least = subst (λ k. trace < k) (sym w.traces) below in
       subst (λ (m : List ℕ). Contains m trace) (sym is.members)
       (Contains-filter (is_member w.clustering (deliveries_by w.journal) e.id) (reverse (numbers_below w.clustering.traces)) trace (listed w.clustering.traces trace least) member)
+
+  -- what has a part is a member
+  pub member_of_part : (trace n : ℕ) → IsPart stamp trace n → is_member w.clustering (deliveries_by w.journal) e.id trace ≡ true
+  member_of_part trace n part =
+      let within = slice_get_within stamp.members part.at trace part.member in
+      let found = slice_get-get_or stamp.members part.at trace within in
+      let there : Contains stamp.members trace = (part.at, within, ap (λ o. unwrap_or o trace) (sym found ∙ part.member)) in
+      passes_filter (is_member w.clustering (deliveries_by w.journal) e.id) (reverse (numbers_below w.clustering.traces)) trace
+      (subst (λ (m : List ℕ). Contains m trace) is.members there)
 
   -- there are as many parts as members
   pub as_many_parts : length stamp.clock ≡ length stamp.members

@@ -5,3 +5,4 @@ mod Links
 mod Empties
 mod Entries
 mod Additions
+pub mod CallerLemmas

@@ -1,0 +1,11 @@
+mod Outcomes
+mod AsStamped
+mod Blocks
+mod StampLists
+mod Going
+mod AtHand
+mod Settling
+mod Takings
+mod Turns
+mod Desks
+mod Viewing

@@ -1,0 +1,10 @@
+pub mod Setups
+pub mod Feeding
+pub mod Counted
+pub mod Stopping
+pub mod FeedStops
+pub mod Appending
+pub mod Stamping
+pub mod Delivering
+pub mod Desks
+pub mod Views

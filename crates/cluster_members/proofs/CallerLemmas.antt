@@ -6,7 +6,6 @@ use Rattle.causal_base.specs.Clusters.{Clustering, communications, numbers_below
 use Rattle.causal_base.specs.History.{EventBlock}
 use Rattle.causal_base.specs.Stamps.{delivers, history_of, members_of, newest_level}
 use Rattle.cluster_members.specs.Kept.{AreKept, KeptLists, cluster_of}
-
 pub use Rattle.cluster_members.proofs.ClusterLists.{traces_that-has}
 
 -- what is kept stays so with a communication more

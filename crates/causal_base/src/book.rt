@@ -53,4 +53,7 @@ pub trait Book: Causal {
         ensures none { IfNone result ((journal : List Entry) → Self.stands_for self.now journal
             → HasEvent (delivered_by journal) id
             → is_member (clustering self.now) (deliveries_by journal) id trace ≡ false) };
+
+    /// There are as many traces as the types say.
+    ghost as_many_traces: { (it : Self) → (clustering it).traces ≡ (Self.Causal.types it).traces };
 }

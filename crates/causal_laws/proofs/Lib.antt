@@ -19,3 +19,4 @@ pub mod VectorLaws
 pub mod Lengths
 pub mod InTurnLaws
 pub mod OneTurn
+pub mod CountedTraces

@@ -10,7 +10,9 @@ pub use cluster::{cluster_stays, clusters_grow, clusters_nest, clusters_part_tra
 pub use delivery::clock_stays_among_deliveries;
 pub use entry::{bound_by_level, clock_is_greatest_of_entries, entry_is_found, walk_enters_above};
 pub use next::next_is_one;
-pub use number::{delivered_are_numbered, delivered_has_own_id, delivered_is_on_a_trace};
+pub use number::{
+    delivered_are_counted, delivered_are_numbered, delivered_has_own_id, delivered_is_on_a_trace,
+};
 pub use order::{before_is_strict, relation_is_one};
 pub use pair::{
     pair_is_of_partners, partners_reach_each_other, partners_share_future, partners_share_past,

@@ -9,3 +9,4 @@ mod Takings
 mod Turns
 mod Desks
 mod Viewing
+pub mod CallerLemmas

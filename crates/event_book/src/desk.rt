@@ -363,10 +363,13 @@ impl Causal for Desk {
 }
 
 impl Book for Desk {
+    ghost use Rattle.std.specs.Prelude.{refl};
     ghost use Rattle.delivery.specs.Leading.{entry_of as block_entry};
     ghost use Rattle.event_book.specs.Setups.{clustering_of};
 
     ghost clustering = { λ d. clustering_of d.setup };
+
+    ghost as_many_traces = { λ d. refl };
 
     ghost collectors = { λ d. d.setup.collectors };
 

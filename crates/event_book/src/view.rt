@@ -156,9 +156,12 @@ impl Causal for View {
 }
 
 impl Book for View {
+    ghost use Rattle.std.specs.Prelude.{refl};
     ghost use Rattle.event_book.specs.Setups.{clustering_of};
 
     ghost clustering = { λ v. clustering_of v.setup };
+
+    ghost as_many_traces = { λ v. refl };
 
     ghost collectors = { λ v. v.setup.collectors };
 

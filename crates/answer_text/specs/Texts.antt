@@ -2,6 +2,8 @@
 -- are in decimal.
 use Rattle.std.specs.Prelude.{ℕ, Bool, true, false, List, [], ◌++◌, length, codes, decimal}
 use Rattle.std.specs.List.{flat_map, join_by}
+use Rattle.causal_base.specs.declared.answer.Answer.{Answer}
+use Rattle.causal_base.specs.declared.answer.Answer.TheVariants as answer
 use Rattle.causal_base.specs.declared.entry.Entry.{Entry}
 use Rattle.causal_base.specs.declared.entry.Entry.TheVariants.{Came, Gone, Pair, Ended}
 use Rattle.causal_base.specs.declared.event_id.EventId.{EventId}
@@ -28,11 +30,17 @@ abbrev pub text_of_more : Bool → List ℕ
 text_of_more true = codes " more"
 text_of_more false = []
 
+-- whether one event happened before another, or which of the two isn't delivered yet
+abbrev pub text_of_answer : Answer Bool → List ℕ
+text_of_answer (answer.Known true) = codes "yes"
+text_of_answer (answer.Known false) = codes "no"
+text_of_answer (answer.NotYet id) = codes "notyet " ++ id_text id
+
 -- A reply. `Later` has no text, since it is told to nobody.
 abbrev pub text_of_reply : TypeTable → Reply → List ℕ
-text_of_reply types Yes = codes "yes"
-text_of_reply types No = codes "no"
-text_of_reply types (NotYet id) = codes "notyet " ++ id_text id
+text_of_reply types Yes = text_of_answer (answer.Known true)
+text_of_reply types No = text_of_answer (answer.Known false)
+text_of_reply types (NotYet id) = text_of_answer (answer.NotYet id)
 text_of_reply types Before = codes "before"
 text_of_reply types After = codes "after"
 text_of_reply types Concurrent = codes "concurrent"

@@ -2,6 +2,7 @@
 //! of its line.
 #![tactic(auto)]
 
+pub use answer::put_answer;
 pub use entry::put_entry;
 pub use event::put_event;
 pub use id::put_id;
@@ -9,6 +10,7 @@ pub use number::put_number;
 pub use reply::Reply;
 pub use reply_text::put_reply;
 
+mod answer;
 mod counted;
 mod cut;
 mod entry;

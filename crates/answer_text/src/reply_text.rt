@@ -1,14 +1,15 @@
 ghost use Rattle.poet_io.specs.Writes.{Writes};
 ghost use Rattle.answer_text.specs.Texts.{text_of_reply, IsPrintable};
 
+use crate::answer::put_answer;
 use crate::counted::put_counted;
 use crate::cut::put_cut;
 use crate::event::put_event;
 use crate::found::put_found;
-use crate::id::{put_id, put_id_after};
+use crate::id::put_id;
 use crate::reply::Reply;
 use crate::stamp::put_stamp;
-use causal_base::Types;
+use causal_base::{Answer, Types};
 use poet_io::{Failed, Sink, put};
 
 /// Writes a reply. It isn't `Later`, and an event that it shows is fit for the types.
@@ -18,9 +19,9 @@ pub fn put_reply<K: Sink>(out: &mut K, types: &Types, reply: &Reply) -> Result<(
         (text_of_reply types.now reply.now) result }
 {
     match reply {
-        Reply::Yes => put(out, b"yes"),
-        Reply::No => put(out, b"no"),
-        Reply::NotYet(id) => put_id_after(out, b"notyet ", *id),
+        Reply::Yes => put_answer(out, Answer::Known(true)),
+        Reply::No => put_answer(out, Answer::Known(false)),
+        Reply::NotYet(id) => put_answer(out, Answer::NotYet(*id)),
         Reply::Before => put(out, b"before"),
         Reply::After => put(out, b"after"),
         Reply::Concurrent => put(out, b"concurrent"),

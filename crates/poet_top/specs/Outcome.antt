@@ -1,7 +1,6 @@
-use Rattle.std.specs.Prelude.{◌≡◌, ℕ, Bool, true, false, List, ◌++◌, ◌⊎◌, codes, decimal}
+use Rattle.std.specs.Prelude.{◌≡◌, ℕ, Bool, List, ◌++◌, ◌⊎◌, codes, decimal}
 use Rattle.causal_base.specs.declared.answer.Answer.{Answer}
-use Rattle.causal_base.specs.declared.answer.Answer.TheVariants.{Known, NotYet}
-use Rattle.causal_base.specs.Spelling.{id_text}
+use Rattle.answer_text.specs.Texts.{text_of_answer}
 use Rattle.raw_reader.specs.declared.cause.LineError.{LineError}
 use Rattle.raw_reader.specs.CauseNames.{cause_name}
 use Rattle.poet_io.specs.SinkState.{SinkState}
@@ -26,12 +25,6 @@ status_of (NotRead name) = 2
 status_of (BadLine error) = 6
 status_of NoMemory = 7
 status_of ManyIds = 8
-
--- what is written for an answer
-abbrev pub text_of_answer : Answer Bool → List ℕ
-text_of_answer (Known true) = codes "yes"
-text_of_answer (Known false) = codes "no"
-text_of_answer (NotYet id) = codes "notyet " ++ id_text id
 
 -- what is written
 abbrev pub text_of_outcome : Outcome → List ℕ

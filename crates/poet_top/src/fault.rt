@@ -2,7 +2,7 @@ ghost use Rattle.std.specs.Prelude.{◌≡◌, ◌++◌, codes};
 ghost use Rattle.poet_io.specs.Writes.{Writes};
 ghost use Rattle.poet_top.specs.Outcome.{BadLine, text_of_outcome};
 
-use crate::number::put_number;
+use answer_text::put_number;
 use poet_io::{Failed, OpenError, Sink, put};
 use raw_reader::{LineCause, LineError};
 

@@ -10,7 +10,6 @@ mod ask;
 mod fault;
 mod law;
 mod limits;
-mod number;
 mod plan;
 mod taking;
 #[cfg(test)]

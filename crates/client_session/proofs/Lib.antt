@@ -1,0 +1,6 @@
+pub mod Exits
+pub mod WordLemmas
+pub mod FormLemmas
+pub mod ScriptLemmas
+pub mod Replying
+pub mod StampShown

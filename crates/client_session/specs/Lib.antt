@@ -1,0 +1,5 @@
+pub mod Commands
+pub mod Scripts
+pub mod Words
+pub mod Replies
+pub mod StampParts

@@ -1,0 +1,35 @@
+/// What is wrong with a script. The causes are in the order in which the first of a line counts.
+#[derive(Clone, Copy, Debug, PartialEq, Eq)]
+pub enum ScriptCause {
+    /// The file has more than [`MOST_SCRIPT`](crate::MOST_SCRIPT) bytes.
+    TooLong,
+    /// The line, ended or not, has more than [`MOST_LINE`](crate::MOST_LINE) bytes.
+    LongLine,
+    /// The file ends within the line.
+    Unended,
+    /// There are [`MOST_COMMANDS`](crate::MOST_COMMANDS) lines before it.
+    TooManyLines,
+    /// The bytes up to the first space, or all of them, aren't the first word of a command.
+    NoCommand,
+    /// There are more words or fewer than the command has, or an empty one.
+    Shape,
+    /// It asks for a stamp, in a closing script.
+    NotInClosing,
+    /// A word isn't two numbers with a full stop between them.
+    BadId,
+    /// An id is of a trace that there isn't.
+    NoTrace,
+    /// An id's number isn't from 1 to 1,000,000.
+    BadNumber,
+    /// Memory ran out.
+    Oom,
+}
+
+/// Why a file is no script.
+#[derive(Clone, Copy, Debug, PartialEq, Eq)]
+pub struct ScriptError {
+    /// The line, counted from 1, and 0 for [`ScriptCause::TooLong`].
+    pub line: u64,
+    /// What is wrong with it.
+    pub cause: ScriptCause,
+}

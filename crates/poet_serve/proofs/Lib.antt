@@ -1,0 +1,10 @@
+pub mod Counted
+pub mod Taken
+pub mod Batches
+pub mod Few
+pub mod Waiting
+pub mod Exits
+pub mod Pieces
+pub mod Sources
+pub mod Lines
+pub mod Runs

@@ -8,3 +8,4 @@ pub mod Pieces
 pub mod Sources
 pub mod Lines
 pub mod Runs
+pub mod Turns

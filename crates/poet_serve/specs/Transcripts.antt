@@ -1,6 +1,9 @@
 -- What a run leaves: a journal, a report for each collector, and the lines of each client.
 use Rattle.std.specs.Prelude.{◌≡◌, ℕ, suc, false, List, [], ◌∷◌, length}
 use Rattle.causal_base.specs.declared.entry.Entry.{Entry}
+use Rattle.causal_base.specs.declared.event.Event.{Event}
+use Rattle.causal_base.specs.declared.limits.TheConstants.{MOST_EVENTS}
+use Rattle.causal_base.specs.InTurn.{IsInTurn}
 use Rattle.causal_base.specs.Journal.{IsSettled}
 use Rattle.causal_base.specs.Types.{TypeTable}
 use Rattle.client_session.specs.declared.command.Command.{Command}
@@ -10,8 +13,10 @@ use Rattle.event_book.specs.Setups.{clustering_of, IsJournalOf}
 use Rattle.poet_io.specs.SourceState.{SourceState}
 use Rattle.poet_serve.specs.declared.report.ClientReport.{ClientReport}
 use Rattle.poet_serve.specs.declared.report.CollectorReport.{CollectorReport}
+use Rattle.poet_serve.specs.declared.report.Stop.TheVariants.{Memory}
 use Rattle.poet_serve.specs.Asking.{IsTold}
 use Rattle.poet_serve.specs.Collecting.{IsPartOf, Told, told_by}
+use Rattle.poet_serve.specs.Reading.{IsReadOf}
 
 -- A source before and after a run, and what is told of its events.
 pub record Collected : Type 0 where
@@ -60,3 +65,22 @@ pub record IsTranscript (setup : Setup) (journal : List Entry) (collectors : Lis
   pub clients_are : AreTold (seen_by setup journal) scripts clients
   pub closing_is : IsTold (seen_by setup journal) last (length journal) closing.lines closing.memory
   pub settled : closing.memory ≡ false → IsSettled setup.types journal
+
+-- the collector didn't stop for want of memory
+abbrev pub HadMemory : Collected → Type 0
+HadMemory one = one.told.stop ≡ Memory → ⊥
+
+-- the lists have the events that each collector read
+abbrev pub AreReadBy : TypeTable → List Collected → List (List Event) → Type 0
+AreReadBy types [] [] = Unit {0}
+AreReadBy types [] (events ∷ lists) = ⊥
+AreReadBy types (one ∷ all) [] = ⊥
+AreReadBy types (one ∷ all) (events ∷ lists) =
+    IsReadOf types one.before one.after one.told.stop events × AreReadBy types all lists
+
+-- One thread made the journal: it took the events that the collectors read, in turn.
+pub record IsMadeInTurn (types : TypeTable) (all : List Collected) (journal : List Entry)
+    : Type 0 where
+  pub lists : List (List Event)
+  pub read : AreReadBy types all lists
+  pub in_turn : IsInTurn types MOST_EVENTS lists journal

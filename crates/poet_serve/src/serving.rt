@@ -2,17 +2,19 @@
 
 ghost use Rattle.std.specs.Prelude.{◌≡◌, ◌≤◌, [], length, map, vec_len, vec_capacity, IfOk, IfErr};
 ghost use Rattle.std.specs.Bool.{OnTrue, OnFalse};
+ghost use Rattle.std.specs.List.{AllByRecursion};
 ghost use Rattle.causal_base.specs.Journal.{IsSettled};
 ghost use Rattle.client_session.specs.Replies.{HaveAllEnded};
 ghost use Rattle.event_book.specs.Feeding.{Delivers};
 ghost use Rattle.event_book.specs.Setups.{IsJournalOf};
 ghost use Rattle.poet_serve.specs.Asking.{IsTold};
-ghost use Rattle.poet_serve.specs.Transcripts.{AreTold, HaveParts, IsTranscript, collected_by, seen_by};
+ghost use Rattle.poet_serve.specs.Transcripts.{AreTold, HadMemory, HaveParts, IsMadeInTurn, IsTranscript, collected_by, seen_by};
 
 use crate::asking::ask_in_turn;
 use crate::collecting::collect_in_turn;
 use crate::report::{ClientReport, CollectorReport, Run};
 use causal_base::{Items, Types};
+use causal_laws::legal_prefix;
 use client_session::Script;
 use event_book::Desk;
 use poet_io::Source;
@@ -39,8 +41,14 @@ pub fn serve_in_turn<S: Source>(
     ensures transcript { IfOk result (λ run. IsTranscript desk.setup run.desk.journal
         (collected_by S.state sources.items run.collectors) scripts.now run.clients closing.now
         run.closing) }
+    // Where no collector stopped for want of memory, one thread took their events in turn.
+    ensures in_turn { IfOk result (λ run.
+        AllByRecursion HadMemory (collected_by S.state sources.items run.collectors)
+        → IsMadeInTurn desk.setup.types (collected_by S.state sources.items run.collectors)
+        run.desk.journal) }
     ensures handed_back { IfErr result (λ back. back.items ≡ sources.items) }
 {
+    legal_prefix();
     let Ok(mut clients) = Vec::with_capacity(alloc, scripts.len()) else {
         return Err(sources);
     };
@@ -112,8 +120,12 @@ fn collect_all<S: Source>(
         ≡ length sources.items }
     ensures parts { HaveParts types.now desk.new.journal 0
         (collected_by S.state sources.items reports.new.items) }
+    ensures in_turn { AllByRecursion HadMemory (collected_by S.state sources.items reports.new.items)
+        → IsMadeInTurn types.now (collected_by S.state sources.items reports.new.items)
+        desk.new.journal × IsSettled types.now desk.new.journal }
     ensures setup { desk.new.setup ≡ desk.old.setup }
 {
+    legal_prefix();
     // Reading it shows how few collectors there are.
     let _setup = desk.setup();
     let mut collector = 0;

@@ -9,3 +9,4 @@ pub mod Sources
 pub mod Lines
 pub mod Runs
 pub mod Turns
+pub mod Readings

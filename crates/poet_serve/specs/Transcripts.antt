@@ -1,5 +1,5 @@
 -- What a run leaves: a journal, a report for each collector, and the lines of each client.
-use Rattle.std.specs.Prelude.{◌≡◌, ℕ, suc, false, List, [], ◌∷◌, length}
+use Rattle.std.specs.Prelude.{◌≡◌, ℕ, suc, false, List, [], ◌∷◌, length, Some}
 use Rattle.causal_base.specs.declared.entry.Entry.{Entry}
 use Rattle.causal_base.specs.declared.event.Event.{Event}
 use Rattle.causal_base.specs.declared.limits.TheConstants.{MOST_EVENTS}
@@ -13,7 +13,8 @@ use Rattle.event_book.specs.Setups.{clustering_of, IsJournalOf}
 use Rattle.poet_io.specs.SourceState.{SourceState}
 use Rattle.poet_serve.specs.declared.report.ClientReport.{ClientReport}
 use Rattle.poet_serve.specs.declared.report.CollectorReport.{CollectorReport}
-use Rattle.poet_serve.specs.declared.report.Stop.TheVariants.{Memory}
+use Rattle.poet_serve.specs.declared.report.Stop.{Stop}
+use Rattle.poet_serve.specs.declared.report.Stop.TheVariants.{End, Full, Line, Memory, Read}
 use Rattle.poet_serve.specs.Asking.{IsTold}
 use Rattle.poet_serve.specs.Collecting.{IsPartOf, Told, told_by}
 use Rattle.poet_serve.specs.Reading.{IsReadOf}
@@ -84,3 +85,20 @@ pub record IsMadeInTurn (types : TypeTable) (all : List Collected) (journal : Li
   pub lists : List (List Event)
   pub read : AreReadBy types all lists
   pub in_turn : IsInTurn types MOST_EVENTS lists journal
+
+-- the source stopped the collector: its end, a fault in it, or a failed read
+abbrev pub IsOfSource : Stop → Type 0
+IsOfSource End = Unit {0}
+IsOfSource Read = Unit {0}
+IsOfSource (Line error) = Unit {0}
+IsOfSource (Full id) = ⊥
+IsOfSource Memory = ⊥
+
+-- What the source had and has left is told, and the source stopped the collector, neither the limit
+-- nor want of memory.
+pub record HasOneReading (one : Collected) : Type 0 where
+  pub had : List ℕ
+  pub had_is : one.before.left ≡ Some had
+  pub left : List ℕ
+  pub left_is : one.after.left ≡ Some left
+  pub stop : IsOfSource one.told.stop

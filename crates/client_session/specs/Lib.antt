@@ -3,3 +3,4 @@ pub mod Scripts
 pub mod Words
 pub mod Replies
 pub mod StampParts
+pub mod CauseNames

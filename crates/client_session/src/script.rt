@@ -1,4 +1,4 @@
-ghost use Rattle.std.specs.Prelude.{◌≡◌, ◌⊎◌, length, slice_get, IfOk, IfErr};
+ghost use Rattle.std.specs.Prelude.{◌≡◌, ◌⊎◌, [], length, slice_get, IfOk, IfErr};
 ghost use Rattle.std.specs.Option.{option_map};
 ghost use Rattle.client_session.specs.Scripts.{IsScript, IsRefused};
 
@@ -68,6 +68,15 @@ impl Script {
             rest = behind;
         }
         Ok(Script { commands })
+    }
+
+    /// The script without a command, as of an empty file. It takes no memory.
+    pub fn empty(alloc: Global) -> Script
+        ensures { result ≡ [] }
+    {
+        Script {
+            commands: Vec::new(alloc),
+        }
     }
 
     /// How many commands there are.

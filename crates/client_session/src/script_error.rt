@@ -1,3 +1,5 @@
+ghost use Rattle.std.specs.Prelude.{◌≡◌};
+
 /// What is wrong with a script. The causes are in the order in which the first of a line counts.
 #[derive(Clone, Copy, Debug, PartialEq, Eq)]
 pub enum ScriptCause {
@@ -32,4 +34,27 @@ pub struct ScriptError {
     pub line: u64,
     /// What is wrong with it.
     pub cause: ScriptCause,
+}
+
+impl ScriptCause {
+    ghost use Rattle.client_session.specs.CauseNames.{cause_name};
+
+    /// The name that is printed.
+    pub fn name(&self) -> &'static str
+        ensures { result.now ≡ cause_name self.now }
+    {
+        match self {
+            ScriptCause::TooLong => "TooLong",
+            ScriptCause::LongLine => "LongLine",
+            ScriptCause::Unended => "Unended",
+            ScriptCause::TooManyLines => "TooManyLines",
+            ScriptCause::NoCommand => "NoCommand",
+            ScriptCause::Shape => "Shape",
+            ScriptCause::NotInClosing => "NotInClosing",
+            ScriptCause::BadId => "BadId",
+            ScriptCause::NoTrace => "NoTrace",
+            ScriptCause::BadNumber => "BadNumber",
+            ScriptCause::Oom => "Oom",
+        }
+    }
 }

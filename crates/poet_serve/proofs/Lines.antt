@@ -16,7 +16,7 @@ use Rattle.client_session.specs.declared.command.Command.TheVariants.{Before, Re
 use Rattle.client_session.specs.Replies.{Seen, HaveAllEnded, IsReply, IsSaid, word_of, yes_or_no}
 use Rattle.poet_serve.specs.declared.report.Line.{Line}
 use Rattle.poet_serve.specs.declared.report.ClientReport.{ClientReport}
-use Rattle.poet_serve.specs.Transcripts.{AreTold}
+use Rattle.poet_serve.specs.Transcripts.{AreTold, AreToldFrom}
 use Rattle.poet_serve.specs.Asking.{AreLinesFrom, IsLine, IsTold, seen_at}
 use Rattle.poet_serve.specs.Chains.{LeadTo}
 
@@ -128,14 +128,21 @@ told_from_none seen commands least (line ∷ lines) memory told =
     }
 
 -- one client more
-pub told_with : (seen : Seen) (scripts : List (List Command)) (reports : List ClientReport) (script : List Command) (report : ClientReport) → AreTold seen scripts reports → IsTold seen script 0 report.lines report.memory → AreTold seen (scripts ++ script ∷ []) (reports ++ report ∷ [])
-told_with seen [] [] script report told is = (is, tt)
-told_with seen [] (other ∷ reports) script report told is = absurd told
-told_with seen (other ∷ scripts) [] script report told is = absurd told
-told_with seen (other ∷ scripts) (one ∷ reports) script report told is = (told.0, told_with seen scripts reports script report told.1 is)
+pub told_with : (seen : Seen) (least : ℕ) (scripts : List (List Command)) (reports : List ClientReport) (script : List Command) (report : ClientReport) → AreToldFrom seen least scripts reports → IsTold seen script least report.lines report.memory → AreToldFrom seen least (scripts ++ script ∷ []) (reports ++ report ∷ [])
+told_with seen least [] [] script report told is = (is, tt)
+told_with seen least [] (other ∷ reports) script report told is = absurd told
+told_with seen least (other ∷ scripts) [] script report told is = absurd told
+told_with seen least (other ∷ scripts) (one ∷ reports) script report told is = (told.0, told_with seen least scripts reports script report told.1 is)
 
-pub told_many : (seen : Seen) (scripts : List (List Command)) (reports : List ClientReport) → AreTold seen scripts reports → length reports ≡ length scripts
-told_many seen [] [] told = refl
-told_many seen [] (other ∷ reports) told = absurd told
-told_many seen (other ∷ scripts) [] told = absurd told
-told_many seen (other ∷ scripts) (one ∷ reports) told = ap suc (told_many seen scripts reports told.1)
+pub told_many : (seen : Seen) (least : ℕ) (scripts : List (List Command)) (reports : List ClientReport) → AreToldFrom seen least scripts reports → length reports ≡ length scripts
+told_many seen least [] [] told = refl
+told_many seen least [] (other ∷ reports) told = absurd told
+told_many seen least (other ∷ scripts) [] told = absurd told
+told_many seen least (other ∷ scripts) (one ∷ reports) told = ap suc (told_many seen least scripts reports told.1)
+
+-- lines on no fewer entries than so many are lines
+pub told_whole : (seen : Seen) (least : ℕ) (scripts : List (List Command)) (reports : List ClientReport) → AreToldFrom seen least scripts reports → AreTold seen scripts reports
+told_whole seen least [] [] told = tt
+told_whole seen least [] (report ∷ reports) told = absurd told
+told_whole seen least (script ∷ scripts) [] told = absurd told
+told_whole seen least (script ∷ scripts) (report ∷ reports) told = (told_from_none seen script least report.lines report.memory told.0, told_whole seen least scripts reports told.1)

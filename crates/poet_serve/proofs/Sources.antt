@@ -61,6 +61,7 @@ module _ (types : TypeTable) (collector : ℕ) (start : List Entry) (before afte
         events = events_of has.batches;
         read = record {
           same_name = same_name;
+          rest = (fed, given);
           faults = raised;
           told = from_prefix (λ bytes left. AreReadOf types bytes left Read (events_of has.batches)) before.left after.left fed given
               (λ left is. (fed, has.batches, refl, subst (λ (t : TypeTable). IsOpenText t fed has.batches) its_types text, refl));
@@ -78,6 +79,7 @@ module _ (types : TypeTable) (collector : ℕ) (start : List Entry) (before afte
         events = at.events;
         read = record {
           same_name = same_name;
+          rest = (fed, given);
           faults = counts;
           told = from_prefix (λ bytes left. AreReadOf types bytes left stop at.events) before.left after.left fed given (λ left there. absurd (none_is_some (sym told ∙ there)));
         };
@@ -91,6 +93,7 @@ module _ (types : TypeTable) (collector : ℕ) (start : List Entry) (before afte
         events = at.events;
         read = record {
           same_name = same_name;
+          rest = (fed, given);
           faults = counts;
           told = from_prefix (λ bytes left. AreReadOf types bytes left stop at.events) before.left after.left fed given
               (λ other there. subst (λ (l : List ℕ). AreReadOf types (fed ++ l) l stop at.events) (one_left (sym told ∙ there)) at.read);
@@ -111,6 +114,7 @@ module _ (types : TypeTable) (collector : ℕ) (start : List Entry) (before afte
         events = at.events;
         read = record {
           same_name = same_name;
+          rest = (fed, given);
           faults = counts;
           told = from_prefix (λ bytes left. AreReadOf types bytes left stop at.events) before.left after.left fed given
               (λ left there.
@@ -145,11 +149,16 @@ no_events : (types : TypeTable) (told : Option (List ℕ)) → IfSome told (λ b
 no_events types None = tt
 no_events types (Some bytes) = ([], [], inl (record { lines = []; fit = tt; rest = bytes; whole = refl; within = omega arith; closed = refl }), refl)
 
+-- what is left without nothing of it
+takes_nothing : (left : Option (List ℕ)) → TakesPrefix left left []
+takes_nothing None = refl
+takes_nothing (Some left) = refl
+
 -- a collector that read nothing, for want of memory
 pub none_brought : (types : TypeTable) (collector : ℕ) (journal : List Entry) (source : SourceState) → IsLegal types journal → HasBrought types collector journal source source Memory journal (tally_of no_report)
 none_brought types collector journal source legal = record {
   events = [];
-  read = record { same_name = refl; faults = refl; told = no_events types source.left };
+  read = record { same_name = refl; rest = ([], takes_nothing source.left); faults = refl; told = no_events types source.left };
   taken = record { counted = no_report; takes = (delivers_none types journal legal, refl); tally_is = refl };
   limit = tt;
   settled = λ memory settled. settled;

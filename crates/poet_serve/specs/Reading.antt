@@ -4,6 +4,7 @@ use Rattle.causal_base.specs.declared.event.Event.{Event}
 use Rattle.causal_base.specs.Types.{TypeTable}
 use Rattle.poet_io.specs.Faults.{IsRaised}
 use Rattle.poet_io.specs.SourceState.{SourceState}
+use Rattle.poet_io.specs.Takes.{LeavesRest}
 use Rattle.raw_reader.specs.Texts.{events_of, BeginsWithBatches, IsGoodText, IsOpenText, HasFault}
 use Rattle.poet_serve.specs.declared.report.Stop.{Stop}
 use Rattle.poet_serve.specs.declared.report.Stop.TheVariants.{End, Read, Line, Full, Memory}
@@ -35,11 +36,12 @@ abbrev pub CountsStop : Stop → (before after : ℕ) → Type 0
 CountsStop Read before after = IsRaised before after
 CountsStop stop before after = after ≡ before
 
--- What became of a source: it is that of the same name, its count of faults is right, and the
--- events were read of its bytes, where it tells them.
+-- What became of a source: it is that of the same name, an end of its bytes is left, its count of
+-- faults is right, and the events were read of its bytes, where it tells them.
 pub record IsReadOf (types : TypeTable) (before after : SourceState) (stop : Stop)
     (events : List Event) : Type 0 where
   pub same_name : after.name ≡ before.name
+  pub rest : LeavesRest before.left after.left
   pub faults : CountsStop stop before.faults after.faults
   pub told : IfSome before.left (λ bytes. IfSome after.left
       (λ left. AreReadOf types bytes left stop events))

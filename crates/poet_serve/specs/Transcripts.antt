@@ -43,13 +43,17 @@ HaveParts types journal collector (one ∷ others) =
     IsPartOf types journal collector one.before one.after one.told
     × HaveParts types journal (suc collector) others
 
+-- each client has lines for its script, on no fewer entries of the journal than these
+abbrev pub AreToldFrom : Seen → (least : ℕ) → List (List Command) → List ClientReport → Type 0
+AreToldFrom seen least [] [] = Unit {0}
+AreToldFrom seen least [] (report ∷ reports) = ⊥
+AreToldFrom seen least (script ∷ scripts) [] = ⊥
+AreToldFrom seen least (script ∷ scripts) (report ∷ reports) =
+    IsTold seen script least report.lines report.memory × AreToldFrom seen least scripts reports
+
 -- each client has lines for its script
 abbrev pub AreTold : Seen → List (List Command) → List ClientReport → Type 0
-AreTold seen [] [] = Unit {0}
-AreTold seen [] (report ∷ reports) = ⊥
-AreTold seen (script ∷ scripts) [] = ⊥
-AreTold seen (script ∷ scripts) (report ∷ reports) =
-    IsTold seen script 0 report.lines report.memory × AreTold seen scripts reports
+AreTold seen scripts reports = AreToldFrom seen 0 scripts reports
 
 -- what is seen of a journal that a desk made
 abbrev pub seen_by : Setup → List Entry → Seen

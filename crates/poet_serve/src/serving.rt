@@ -8,7 +8,7 @@ ghost use Rattle.client_session.specs.Replies.{HaveAllEnded};
 ghost use Rattle.event_book.specs.Feeding.{Delivers};
 ghost use Rattle.event_book.specs.Setups.{IsJournalOf};
 ghost use Rattle.poet_serve.specs.Asking.{IsTold};
-ghost use Rattle.poet_serve.specs.Transcripts.{AreTold, HadMemory, HaveParts, IsMadeInTurn, IsTranscript, collected_by, seen_by};
+ghost use Rattle.poet_serve.specs.Transcripts.{AreToldFrom, HadMemory, HaveParts, IsMadeInTurn, IsTranscript, collected_by, seen_by};
 
 use crate::asking::ask_in_turn;
 use crate::collecting::collect_in_turn;
@@ -38,9 +38,13 @@ pub fn serve_in_turn<S: Source>(
     requires types { types.now ≡ desk.setup.types }
     requires collectors { desk.setup.collectors ≡ length sources.items }
     ensures setup { IfOk result (λ run. run.desk.setup ≡ desk.setup) }
+    ensures one_each { IfOk result (λ run. length run.collectors ≡ length sources.items) }
     ensures transcript { IfOk result (λ run. IsTranscript desk.setup run.desk.journal
         (collected_by S.state sources.items run.collectors) scripts.now run.clients closing.now
         run.closing) }
+    // The clients are asked when all is read.
+    ensures clients_whole { IfOk result (λ run. AreToldFrom (seen_by desk.setup run.desk.journal)
+        (length run.desk.journal) scripts.now run.clients) }
     // Where no collector stopped for want of memory, one thread took their events in turn.
     ensures in_turn { IfOk result (λ run.
         AllByRecursion HadMemory (collected_by S.state sources.items run.collectors)
@@ -116,6 +120,7 @@ fn collect_all<S: Source>(
     requires collectors { desk.old.setup.collectors ≡ length sources.items }
     requires none { reports.old.items ≡ [] }
     requires room { length sources.items ≤ vec_capacity reports.old }
+    ensures one_each { length reports.new.items ≡ length sources.items }
     ensures as_many { length (collected_by S.state sources.items reports.new.items)
         ≡ length sources.items }
     ensures parts { HaveParts types.now desk.new.journal 0
@@ -150,7 +155,8 @@ fn ask_all(
     requires ended { HaveAllEnded (seen_by desk.now.setup desk.now.journal) }
     requires none { reports.old.items ≡ [] }
     requires room { length scripts.now ≤ vec_capacity reports.old }
-    ensures { AreTold (seen_by desk.now.setup desk.now.journal) scripts.now reports.new.items }
+    ensures { AreToldFrom (seen_by desk.now.setup desk.now.journal) (length desk.now.journal)
+        scripts.now reports.new.items }
 {
     for script in scripts {
         reports.push_reserved(ask_in_turn(alloc, desk, types, script));

@@ -72,6 +72,12 @@ returns-clause-as_many g c =
     let whole : c.args.sources.items ≡ before.done = before.sources ∙ (ap (λ l. before.done ++ l) (nil_from_length (into_iter_items c.loop-source.rest) (sym c.loop-source.rest.rest.ok.0 ∙ none_from (into_iter_len c.loop-source.rest) (λ some. (let other = c.in_default.ensures.variant.1 some in absurd cc)))) ∙ append-nil before.done) in
     subst (λ (all : List g.row.S.Denot). length (collected_by state all c.loop-source.reports.items) ≡ length all) (sym whole) (collected_many state before.done c.loop-source.reports.items before.as_many)
 
+pub returns-clause-one_each : goal.returns-clause-one_each
+returns-clause-one_each g c =
+    let before = c.loop-source.invariant in
+    let whole : c.args.sources.items ≡ before.done = before.sources ∙ (ap (λ l. before.done ++ l) (nil_from_length (into_iter_items c.loop-source.rest) (sym c.loop-source.rest.rest.ok.0 ∙ none_from (into_iter_len c.loop-source.rest) (λ some. (let other = c.in_default.ensures.variant.1 some in absurd cc)))) ∙ append-nil before.done) in
+    before.as_many ∙ ap length (sym whole)
+
 pub returns-clause-in_turn : goal.returns-clause-in_turn
 returns-clause-in_turn g c =
     let state = g.S.Source.state in

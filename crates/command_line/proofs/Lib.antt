@@ -1,0 +1,6 @@
+mod Exits
+mod ItemLemmas
+mod ListLemmas
+mod OptionLemmas
+mod PlanLemmas
+mod SizeLemmas

@@ -1,0 +1,5 @@
+pub mod CallerLemmas
+mod Exits
+mod FileEnds
+mod Openings
+mod Scripts

@@ -1,0 +1,4 @@
+pub mod Troubles
+pub mod Files
+pub mod Loading
+pub mod Sources

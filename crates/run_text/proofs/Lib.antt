@@ -1,0 +1,6 @@
+mod Printables
+mod Lines
+mod Statuses
+mod Texts
+mod Delivered
+mod Lists

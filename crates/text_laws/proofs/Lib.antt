@@ -1,0 +1,13 @@
+mod Tokens
+mod Items
+mod Events
+mod Entries
+mod Journals
+mod Replies
+mod Levels
+mod Stops
+mod CollectorLines
+mod Lines
+mod Clients
+mod Counts
+mod Whole

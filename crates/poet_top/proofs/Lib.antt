@@ -1,4 +1,3 @@
-pub mod Words
 pub mod Turns
 pub mod Exits
 pub mod FileEnds
@@ -7,3 +6,4 @@ pub mod Waiting
 pub mod Pieces
 pub mod Sources
 pub mod Outcomes
+pub mod Ran

@@ -1,15 +1,12 @@
-use Rattle.std.specs.Prelude.{◌≡◌, ◌⊎◌, ℕ, List, [], None, Some, IfSome, IsSomeAnd}
+use Rattle.std.specs.Prelude.{◌≡◌, ◌⊎◌, ℕ, List, [], None, IsSomeAnd}
 use Rattle.causal_base.specs.declared.event_id.EventId.{EventId}
+use Rattle.command_line.specs.Plans.{Asked, Ask, Replay, IsPlan}
 use Rattle.poet_io.specs.FilesState.{FilesState}
 use Rattle.poet_io.specs.GivenBack.{IsGivenBack, HasFailedToRead, HasFailedToOpen}
 use Rattle.poet_top.specs.Ask.{asked_types, IsAnswerOver, HasBadLine, HasManyIds, IsUndecidedUpTo, IsReadNoFurther}
-use Rattle.poet_top.specs.Outcome.{Outcome, Answered, NoPlan, NotOpened, NotRead, BadLine, NoMemory, ManyIds}
-use Rattle.poet_top.specs.Words.{AreAskWords, AreNoPlan}
-
--- the file of this name is there and its bytes are so, where the folder tells what stands in it
-abbrev pub TellsOf : FilesState → List ℕ → (List ℕ → Type 0) → Type 0
-TellsOf files name AreSo = IfSome files.folder
-    (λ folder. (bytes : List ℕ) × (folder name ≡ Some bytes) × AreSo bytes)
+use Rattle.poet_top.specs.Outcome.{Outcome, Answered, NoPlan, NotOpened, NotRead, BadLine, NoMemory, ManyIds, NotBegun, Ran}
+use Rattle.poet_top.specs.Replay.{EndsReplay}
+use Rattle.run_files.specs.Files.{TellsOf}
 
 -- When a question over the file of this name ends with each outcome, and what became of the file.
 -- Want of memory alone has no cause that is told.
@@ -34,10 +31,17 @@ EndsOver name a b before after ManyIds =
     (left : List ℕ) × IsGivenBack name left before after
     × TellsOf before name (λ bytes.
     HasManyIds asked_types bytes × IsReadNoFurther asked_types bytes left)
+EndsOver name a b before after (NotBegun trouble) = ⊥
+EndsOver name a b before after (Ran told) = ⊥
 
--- When a run ends with an outcome, and what it leaves in the folder: it has no plan and touches
--- nothing, or its question ends so over the file that it names.
+-- when what was asked for ends with an outcome, and what it leaves in the folder
+abbrev pub EndsAsked : Asked → FilesState → FilesState → Outcome → Type 0
+EndsAsked (Ask name a b) before after outcome = EndsOver name a b before after outcome
+EndsAsked (Replay asked) before after outcome = EndsReplay asked before after outcome
+
+-- When the program ends with an outcome, and what it leaves in the folder: its words ask for
+-- nothing, and nothing is touched; or what they ask for ends so.
 abbrev pub Ends : List (List ℕ) → FilesState → FilesState → Outcome → Type 0
-Ends words before after outcome = (AreNoPlan words × (outcome ≡ NoPlan) × (after ≡ before))
-    ⊎ ((name : List ℕ) × (a : EventId) × (b : EventId) × AreAskWords words name a b
-    × EndsOver name a b before after outcome)
+Ends words before after outcome =
+    (((asked : Asked) → IsPlan words asked → ⊥) × (outcome ≡ NoPlan) × (after ≡ before))
+    ⊎ ((asked : Asked) × IsPlan words asked × EndsAsked asked before after outcome)

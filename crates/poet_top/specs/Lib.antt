@@ -1,6 +1,7 @@
 pub mod Ask
+pub mod Ending
 pub mod Ends
 pub mod FaultOutcome
 pub mod Outcome
-pub mod Words
+pub mod Replay
 pub mod Taking

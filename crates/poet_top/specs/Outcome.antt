@@ -5,8 +5,12 @@ use Rattle.raw_reader.specs.declared.cause.LineError.{LineError}
 use Rattle.raw_reader.specs.CauseNames.{cause_name}
 use Rattle.poet_io.specs.SinkState.{SinkState}
 use Rattle.poet_io.specs.Writes.{IsWritten, IsCutShort}
+use Rattle.run_files.specs.Troubles.{Trouble, status_of_trouble, text_of_trouble}
+use Rattle.run_text.specs.Runs.{RunTold, text_of}
+use Rattle.run_text.specs.Runs.{status_of as status_of_run}
 
--- what a run can end with, if what it writes can be written
+-- What the program can end with, if what it writes can be written: an answer; words that ask for
+-- nothing; what keeps a question from its answer; what kept a run from beginning; or a run.
 pub data Outcome : Type 0 where
   Answered : Answer Bool → Outcome
   NoPlan : Outcome
@@ -15,6 +19,8 @@ pub data Outcome : Type 0 where
   BadLine : LineError → Outcome
   NoMemory : Outcome
   ManyIds : Outcome
+  NotBegun : Trouble → Outcome
+  Ran : RunTold → Outcome
 
 -- its status
 abbrev pub status_of : Outcome → ℕ
@@ -25,6 +31,8 @@ status_of (NotRead name) = 2
 status_of (BadLine error) = 6
 status_of NoMemory = 7
 status_of ManyIds = 8
+status_of (NotBegun trouble) = status_of_trouble trouble
+status_of (Ran told) = status_of_run told
 
 -- what is written
 abbrev pub text_of_outcome : Outcome → List ℕ
@@ -36,6 +44,8 @@ text_of_outcome (BadLine error) = codes "poet: line "
     ++ (decimal error.line ++ (codes " " ++ cause_name error.cause ++ codes "\n"))
 text_of_outcome NoMemory = codes "poet: memory\n"
 text_of_outcome ManyIds = codes "poet: full\n"
+text_of_outcome (NotBegun trouble) = text_of_trouble trouble
+text_of_outcome (Ran told) = text_of told
 
 -- The text of the outcome was written, and the status is its own; or it was cut short where a write
 -- failed, and the status is 3.

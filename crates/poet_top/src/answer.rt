@@ -1,15 +1,34 @@
-ghost use Rattle.std.specs.Prelude.{◌++◌, codes};
-ghost use Rattle.answer_text.specs.Texts.{text_of_answer};
-ghost use Rattle.poet_io.specs.Writes.{Writes};
+ghost use Rattle.std.specs.Prelude.{◌≡◌};
 
 use causal_base::Answer;
 use poet_io::{Failed, Sink, put};
+use text_buffer::Printed;
 
-/// Writes an answer, and ends the line.
-pub fn put_answer<K: Sink>(out: &mut K, answer: Answer<bool>) -> Result<(), Failed>
-    ensures { Writes (K.state out.old) (K.state out.new)
-        (text_of_answer answer ++ codes "\n") result }
+/// The line of an answer.
+#[derive(Debug, Drop)]
+pub struct AnswerLine {
+    pub answer: Answer<bool>,
+}
+
+impl Printed for AnswerLine {
+    ghost use Rattle.std.specs.Prelude.{◌++◌, codes};
+    ghost use Rattle.answer_text.specs.Texts.{text_of_answer};
+
+    ghost text = { λ line. text_of_answer line.answer ++ codes "\n" };
+
+    ghost printable = { λ line. Unit {0} };
+
+    fn put<K: Sink>(&self, out: &mut K) -> Result<(), Failed> {
+        answer_text::put_answer(out, copy_of(&self.answer))?;
+        put(out, b"\n")
+    }
+}
+
+fn copy_of(answer: &Answer<bool>) -> Answer<bool>
+    ensures { result ≡ answer.now }
 {
-    answer_text::put_answer(out, answer)?;
-    put(out, b"\n")
+    match answer {
+        Answer::Known(before) => Answer::Known(*before),
+        Answer::NotYet(id) => Answer::NotYet(*id),
+    }
 }

@@ -5,9 +5,9 @@ ghost use Rattle.poet_top.specs.Ends.{EndsOver};
 ghost use Rattle.poet_top.specs.FaultOutcome.{outcome_of, HasNoAnswer, CountsFault};
 
 use crate::fault::Fault;
-use crate::plan::Plan;
 use crate::taking::take_events;
 use causal_base::{Answer, MOST_TRACES, Plain, Types};
+use command_line::AskPlan;
 use poet_io::{Files, Source};
 use raw_reader::Reader;
 use std::alloc::Global;
@@ -15,7 +15,7 @@ use std::alloc::Global;
 /// The answer to a plan, from the file that it names.
 pub fn ask<'a, F: Files>(
     alloc: Global,
-    plan: &Plan<'a>,
+    plan: &AskPlan<'a>,
     files: &mut F,
 ) -> Result<Answer<bool>, Fault<'a>>
     ensures { EndsOver plan.now.name.now plan.now.a plan.now.b
@@ -33,7 +33,7 @@ pub fn ask<'a, F: Files>(
 /// The answer to a plan, over the events that the source of its file spells.
 fn answer_from<'a, S: Source>(
     alloc: Global,
-    plan: &Plan<'a>,
+    plan: &AskPlan<'a>,
     source: &mut S,
 ) -> Result<Answer<bool>, Fault<'a>>
     ensures ok { IfOk result (λ answer. IfSome (S.state source.old).left

@@ -5,6 +5,7 @@ ghost use Rattle.poet_top.specs.Outcome.{BadLine, text_of_outcome};
 use answer_text::put_number;
 use poet_io::{Failed, OpenError, Sink, put};
 use raw_reader::{LineCause, LineError};
+use text_buffer::Printed;
 
 /// Why there is no answer.
 #[derive(Clone, Copy, Debug, PartialEq, Eq)]
@@ -25,7 +26,7 @@ pub enum Fault<'a> {
 
 impl<'a> Fault<'a> {
     ghost use Rattle.poet_top.specs.FaultOutcome.{outcome_of_fault, outcome_of_open, IsFaultOf};
-    ghost use Rattle.poet_top.specs.Outcome.{status_of, text_of_outcome};
+    ghost use Rattle.poet_top.specs.Outcome.{status_of};
 
     /// The fault where the file of this name wasn't opened.
     pub fn of_open(error: OpenError, name: &'a str) -> Fault<'a>
@@ -59,12 +60,17 @@ impl<'a> Fault<'a> {
             Fault::Full => 8,
         }
     }
+}
 
-    /// Writes the line that says what is wrong.
-    pub fn put<K: Sink>(&self, out: &mut K) -> Result<(), Failed>
-        ensures { Writes (K.state out.old) (K.state out.new)
-            (text_of_outcome (outcome_of_fault self.now)) result }
-    {
+impl Printed for Fault<'_> {
+    ghost use Rattle.poet_top.specs.FaultOutcome.{outcome_of_fault};
+    ghost use Rattle.poet_top.specs.Outcome.{text_of_outcome};
+
+    ghost text = { λ fault. text_of_outcome (outcome_of_fault fault) };
+
+    ghost printable = { λ fault. Unit {0} };
+
+    fn put<K: Sink>(&self, out: &mut K) -> Result<(), Failed> {
         match self {
             Fault::Words => put(out, b"poet: words\n"),
             Fault::Open(name) => put_named(out, b"poet: open ", name),

@@ -10,7 +10,7 @@ mod ask;
 mod fault;
 mod law;
 mod limits;
-mod plan;
+mod replay;
 mod taking;
 #[cfg(test)]
 mod tests;

@@ -1,0 +1,5 @@
+mod TakenEvents
+mod ClockSums
+mod PastCounts
+mod PastsByClock
+mod LinesOfEvents

@@ -1,0 +1,2 @@
+pub mod LoadTexts
+pub mod Loads

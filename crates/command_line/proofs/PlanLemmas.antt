@@ -1,13 +1,13 @@
 -- Words are a plan in one way.
 use Rattle.std.proofs.Common.{◌≡◌, ℕ, List, [], ◌∷◌, length, Option, refl, sym, ap, subst, ◌∙◌, arith}
-use Rattle.std.specs.Prelude.{codes}
+use Rattle.std.specs.Prelude.{codes, decimal}
 use Rattle.causal_base.specs.declared.event_id.EventId.{EventId}
 use Rattle.causal_base.specs.declared.limits.TheConstants.{MOST_TRACES}
 use Rattle.causal_base.specs.Fields.{IsIdInRange}
-use Rattle.causal_base.proofs.CallerLemmas.{id_once, same_id}
+use Rattle.causal_base.proofs.CallerLemmas.{id_once, number_once, same_id}
 use Rattle.command_line.specs.Items.{NameFiles}
 use Rattle.command_line.specs.Options.{TakesAfter, TakesLevels}
-use Rattle.command_line.specs.Plans.{AreAskWords, AreReplayWords, Asked, Ask, Replay, IsPlan, ReplayAsked}
+use Rattle.command_line.specs.Plans.{AreAskWords, AreLoadWords, AreReplayWords, Asked, Ask, Replay, Load, IsPlan, ReplayAsked}
 use Rattle.command_line.proofs.ItemLemmas.{files_once}
 use Rattle.command_line.proofs.OptionLemmas.{levels_once, merging_once}
 
@@ -72,8 +72,33 @@ ask_once words name other a b c d is also =
     let b_is : b ≡ d = id_in_range_once also.second b d (subst (λ bytes. IsIdInRange bytes MOST_TRACES b) second is.b_is) also.b_is in
     cc
 
+-- `load` isn't `ask`, nor `replay`
+load_no_ask : (words : List (List ℕ)) (name : List ℕ) (a b : EventId) (events : ℕ) → AreLoadWords words events → AreAskWords words name a b → ⊥
+load_no_ask words name a b events is also =
+    let both : codes "load" ∷ decimal events ∷ [] ≡ codes "ask" ∷ name ∷ also.first ∷ also.second ∷ [] = sym is.are ∙ also.are in
+    let heads : codes "load" ≡ codes "ask" = cc in
+    let lengths : 4 ≡ 3 = ap (λ bytes. length bytes) heads in omega (arith, lengths)
+
+load_no_replay : (words : List (List ℕ)) (events : ℕ) (asked : ReplayAsked) → AreLoadWords words events → AreReplayWords words asked → ⊥
+load_no_replay words events asked is also =
+    let both : codes "load" ∷ decimal events ∷ [] ≡ codes "replay" ∷ also.behind = sym is.are ∙ also.are in
+    let heads : codes "load" ≡ codes "replay" = cc in
+    let lengths : 4 ≡ 6 = ap (λ bytes. length bytes) heads in omega (arith, lengths)
+
+-- a number stands in decimal in one way
+load_once : (words : List (List ℕ)) (events others : ℕ) → AreLoadWords words events → AreLoadWords words others → events ≡ others
+load_once words events others is also =
+    let both : codes "load" ∷ decimal events ∷ [] ≡ codes "load" ∷ decimal others ∷ [] = sym is.are ∙ also.are in
+    let same : decimal events ≡ decimal others = cc in
+    number_once (decimal others) events others (record { small = omega (arith, is.most); spelled = sym same }) (record { small = omega (arith, also.most); spelled = refl })
+
 pub plan_once : (words : List (List ℕ)) (asked other : Asked) → IsPlan words asked → IsPlan words other → asked ≡ other
 plan_once words (Ask name a b) (Ask other c d) is also = ask_once words name other a b c d is also
 plan_once words (Ask name a b) (Replay other) is also = absurd (ask_no_replay words name a b other is also)
 plan_once words (Replay asked) (Ask other c d) is also = absurd (ask_no_replay words other c d asked also is)
 plan_once words (Replay asked) (Replay other) is also = ap (λ replay. Replay replay) (replay_once words asked other is also)
+plan_once words (Load events) (Load others) is also = ap (λ count. Load count) (load_once words events others is also)
+plan_once words (Load events) (Ask other c d) is also = absurd (load_no_ask words other c d events is also)
+plan_once words (Load events) (Replay other) is also = absurd (load_no_replay words events other is also)
+plan_once words (Ask name a b) (Load others) is also = absurd (load_no_ask words name a b others also is)
+plan_once words (Replay asked) (Load others) is also = absurd (load_no_replay words others asked also is)

@@ -7,7 +7,7 @@ use Rattle.command_line.specs.Items as named
 use Rattle.command_line.specs.declared.item.ItemRef.{ItemRef}
 use Rattle.command_line.specs.declared.item.ItemRef.TheVariants.{Events, Client, Closing}
 use Rattle.command_line.specs.declared.plan.Plan.{Plan}
-use Rattle.command_line.specs.declared.plan.Plan.TheVariants.{Ask, Replay}
+use Rattle.command_line.specs.declared.plan.Plan.TheVariants.{Ask, Replay, Load}
 use Rattle.command_line.specs.declared.plan.ReplayPlan.{ReplayPlan}
 
 -- the replay that a plan of the code asks for
@@ -25,6 +25,7 @@ replay_of plan = record {
 abbrev pub asked_by : Plan → Asked
 asked_by (Ask plan) = meant.Ask plan.name.now plan.a plan.b
 asked_by (Replay plan) = meant.Replay (replay_of plan)
+asked_by (Load events) = meant.Load events
 
 -- the file that a borrowed one stands for
 abbrev pub item_of : ItemRef → Item

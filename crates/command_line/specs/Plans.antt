@@ -1,7 +1,7 @@
 -- What the words of a command line ask for.
-use Rattle.std.specs.Prelude.{◌≡◌, ℕ, ◌≤◌, List, [], ◌∷◌, length, Option, codes}
+use Rattle.std.specs.Prelude.{◌≡◌, ℕ, ◌≤◌, List, [], ◌∷◌, length, Option, codes, decimal}
 use Rattle.causal_base.specs.declared.event_id.EventId.{EventId}
-use Rattle.causal_base.specs.declared.limits.TheConstants.{MOST_TRACES}
+use Rattle.causal_base.specs.declared.limits.TheConstants.{MOST_EVENTS, MOST_TRACES}
 use Rattle.causal_base.specs.Fields.{IsIdInRange}
 use Rattle.command_line.specs.Items.{NameFiles}
 use Rattle.command_line.specs.Options.{TakesAfter, TakesLevels}
@@ -17,10 +17,12 @@ pub record ReplayAsked : Type 0 where
   pub clients : List (List ℕ)
   pub closing : Option (List ℕ)
 
--- what words ask for: whether one event of a file happened before another, or a replay
+-- what words ask for: whether one event of a file happened before another, a replay, or a load of so
+-- many events
 pub data Asked : Type 0 where
   Ask : (name : List ℕ) (a b : EventId) → Asked
   Replay : (asked : ReplayAsked) → Asked
+  Load : (events : ℕ) → Asked
 
 -- The words are `ask`, the name of a file of events, and two ids.
 pub record AreAskWords (words : List (List ℕ)) (name : List ℕ) (a b : EventId) : Type 0 where
@@ -42,7 +44,13 @@ pub record AreReplayWords (words : List (List ℕ)) (asked : ReplayAsked) : Type
   pub named : NameFiles files asked.events asked.clients asked.closing
   pub some_events : 1 ≤ length asked.events
 
+-- The words are `load` and a number of events, at most 400,000.
+pub record AreLoadWords (words : List (List ℕ)) (events : ℕ) : Type 0 where
+  pub are : words ≡ codes "load" ∷ decimal events ∷ []
+  pub most : events ≤ MOST_EVENTS
+
 -- the words ask for this
 abbrev pub IsPlan : List (List ℕ) → Asked → Type 0
 IsPlan words (Ask name a b) = AreAskWords words name a b
 IsPlan words (Replay asked) = AreReplayWords words asked
+IsPlan words (Load events) = AreLoadWords words events

@@ -1,14 +1,15 @@
-ghost use Rattle.std.specs.Prelude.{◌≡◌, ℕ, List, map, string_bytes, IfSome, IfNone};
+ghost use Rattle.std.specs.Prelude.{◌≡◌, ◌≤◌, ℕ, List, decimal, map, string_bytes, IfSome, IfNone};
 ghost use Rattle.causal_base.specs.Fields.{IsIdInRange};
 ghost use Rattle.causal_base.specs.declared.event_id.EventId.{EventId};
+ghost use Rattle.causal_base.specs.declared.limits.TheConstants.{MOST_EVENTS};
 ghost use Rattle.command_line.specs.Asking.{asked_by, replay_of};
-ghost use Rattle.command_line.specs.Plans.{AreAskWords, AreReplayWords, Asked, IsPlan, ReplayAsked};
+ghost use Rattle.command_line.specs.Plans.{AreAskWords, AreLoadWords, AreReplayWords, Asked, IsPlan, ReplayAsked};
 
 use crate::files::Files;
 use crate::names::Names;
 use crate::options::{take_after, take_levels};
 use crate::words::{behind_word, first_of};
-use causal_base::{EventId, MOST_TRACES, id_of};
+use causal_base::{EventId, MOST_EVENTS, MOST_TRACES, id_of, number_of};
 use cluster_levels::Sizes;
 
 /// What the words of the command line ask for.
@@ -18,6 +19,8 @@ pub enum Plan<'a> {
     Ask(AskPlan<'a>),
     /// A replay of files.
     Replay(ReplayPlan<'a>),
+    /// A load of so many events, at most [`MOST_EVENTS`](causal_base::MOST_EVENTS).
+    Load(u32),
 }
 
 /// Whether the event `a` happened before the event `b`, over the events of the file of this name.
@@ -52,8 +55,8 @@ pub struct ReplayPlan<'a> {
 /// The plan that the words are, which are those after the program's name, or none. It takes no
 /// memory.
 ///
-/// The words are `ask EVENTS A B`, with two ids, or `replay [--levels LIST] [--after W] TARGET ITEM
-/// ..`. LIST is the sizes of the levels with commas between them, and 8 and 32 where it isn't there;
+/// The words are `ask EVENTS A B`, with two ids, `replay [--levels LIST] [--after W] TARGET ITEM ..`,
+/// or `load N`, with a number up to 400,000. LIST is the sizes of the levels with commas between them, and 8 and 32 where it isn't there;
 /// W is 1 where it isn't there. An ITEM is `e:NAME` for the events of a collector, `c:NAME` for the
 /// script of a client, or `z:NAME` for the closing script.
 pub fn plan_of(words: &[String]) -> Option<Plan<'_>>
@@ -63,6 +66,9 @@ pub fn plan_of(words: &[String]) -> Option<Plan<'_>>
 {
     if let Some(plan) = ask_plan(words) {
         return Some(Plan::Ask(plan));
+    }
+    if let Some(events) = load_plan(words) {
+        return Some(Plan::Load(events));
     }
     match replay_plan(words) {
         Some(plan) => Some(Plan::Replay(plan)),
@@ -129,4 +135,31 @@ fn replay_plan(words: &[String]) -> Option<ReplayPlan<'_>>
         clients,
         closing,
     })
+}
+
+/// How many events, where the words are `load N`.
+fn load_plan(words: &[String]) -> Option<u32>
+    ensures some { IfSome result (AreLoadWords (map string_bytes words.now)) }
+    ensures none { IfNone result ((events : ℕ)
+        → AreLoadWords (map string_bytes words.now) events → ⊥) }
+{
+    let behind = behind_word(words, "load")?;
+    let (number, behind) = first_of(behind)?;
+    if !behind.is_empty() {
+        return None;
+    }
+    events_in(number.as_bytes())
+}
+
+/// The number of events that a text spells, up to [`MOST_EVENTS`].
+fn events_in(text: &[u8]) -> Option<u32>
+    ensures some { IfSome result (λ events. (text.now ≡ decimal events) × (events ≤ MOST_EVENTS)) }
+    ensures none { IfNone result ((events : ℕ) → text.now ≡ decimal events → events ≤ MOST_EVENTS
+        → ⊥) }
+{
+    let events = number_of(text)?;
+    if events > u64::from(MOST_EVENTS) {
+        return None;
+    }
+    Some(events as u32)
 }

@@ -102,7 +102,7 @@ const REPLAYS: [(&[&str], Replay); 6] = [
 ];
 
 /// Words that are no plan.
-const NO_PLANS: [&[&str]; 40] = [
+const NO_PLANS: [&[&str]; 46] = [
     &[],
     &[""],
     &["tell", "e.txt", "0.1", "1.1"],
@@ -116,6 +116,13 @@ const NO_PLANS: [&[&str]; 40] = [
     &["replay"],
     &["replay", "t"],
     &["Replay", "t", "e:a"],
+    // Loads.
+    &["load"],
+    &["load", "400001"],
+    &["load", "04"],
+    &["load", "-1"],
+    &["load", "4", "4"],
+    &["load", "4 "],
     // Levels.
     &["replay", "--levels"],
     &["replay", "--levels", "2"],
@@ -200,6 +207,14 @@ fn reads_words(rt: HostRuntime) -> Result<(), Fail> {
             return Err("no replay".into());
         };
         assert!(rt; is_replay(&plan, want), "{words:?}");
+    }
+
+    for (number, want) in [("0", 0), ("7", 7), ("400000", 400_000)] {
+        let words = words_from(rt.alloc(), &["load", number])?;
+        let Some(Plan::Load(events)) = plan_of(&words) else {
+            return Err("no load".into());
+        };
+        assert_eq!(rt; events, want);
     }
 
     for words in NO_PLANS {

@@ -1,10 +1,12 @@
 use Rattle.std.specs.Prelude.{◌≡◌, ◌⊎◌, ℕ, List, [], None, IsSomeAnd}
 use Rattle.causal_base.specs.declared.event_id.EventId.{EventId}
-use Rattle.command_line.specs.Plans.{Asked, Ask, Replay, IsPlan}
+use Rattle.command_line.specs.Plans.{Asked, Ask, Replay, Load, IsPlan}
+use Rattle.load_run.specs.declared.loaded.Loaded.{Loaded}
+use Rattle.load_run.specs.Loads.{IsLoaded}
 use Rattle.poet_io.specs.FilesState.{FilesState}
 use Rattle.poet_io.specs.GivenBack.{IsGivenBack, HasFailedToRead, HasFailedToOpen}
 use Rattle.poet_top.specs.Ask.{asked_types, IsAnswerOver, HasBadLine, HasManyIds, IsUndecidedUpTo, IsReadNoFurther}
-use Rattle.poet_top.specs.Outcome.{Outcome, Answered, NoPlan, NotOpened, NotRead, BadLine, NoMemory, ManyIds, NotBegun, Ran}
+use Rattle.poet_top.specs.Outcome.{Outcome, Answered, NoPlan, NotOpened, NotRead, BadLine, NoMemory, ManyIds, NotBegun, Ran, HasLoaded}
 use Rattle.poet_top.specs.Replay.{EndsReplay}
 use Rattle.run_files.specs.Files.{TellsOf}
 
@@ -33,11 +35,19 @@ EndsOver name a b before after ManyIds =
     HasManyIds asked_types bytes × IsReadNoFurther asked_types bytes left)
 EndsOver name a b before after (NotBegun trouble) = ⊥
 EndsOver name a b before after (Ran told) = ⊥
+EndsOver name a b before after (HasLoaded told) = ⊥
+
+-- How a load of so many events ends: with what came of it, or for want of memory. No file is touched.
+abbrev pub EndsLoad : ℕ → FilesState → FilesState → Outcome → Type 0
+EndsLoad events before after outcome = (after ≡ before)
+    × ((outcome ≡ NoMemory)
+    ⊎ ((told : Loaded) × IsLoaded told × (told.events ≡ events) × (outcome ≡ HasLoaded told)))
 
 -- when what was asked for ends with an outcome, and what it leaves in the folder
 abbrev pub EndsAsked : Asked → FilesState → FilesState → Outcome → Type 0
 EndsAsked (Ask name a b) before after outcome = EndsOver name a b before after outcome
 EndsAsked (Replay asked) before after outcome = EndsReplay asked before after outcome
+EndsAsked (Load events) before after outcome = EndsLoad events before after outcome
 
 -- When the program ends with an outcome, and what it leaves in the folder: its words ask for
 -- nothing, and nothing is touched; or what they ask for ends so.

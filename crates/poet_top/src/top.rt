@@ -1,9 +1,11 @@
-ghost use Rattle.std.specs.Prelude.{◌≡◌, ◌⊎◌, ℕ, List, map, string_bytes};
+ghost use Rattle.std.specs.Prelude.{◌≡◌, ◌≤◌, ◌⊎◌, ℕ, List, map, string_bytes};
+ghost use Rattle.causal_base.specs.declared.limits.TheConstants.{MOST_EVENTS};
 ghost use Rattle.command_line.specs.Asking.{asked_by};
 ghost use Rattle.command_line.specs.Plans.{IsPlan};
+ghost use Rattle.poet_io.specs.FilesState.{FilesState};
 ghost use Rattle.poet_io.specs.Writes.{IsWritten, IsCutShort};
 ghost use Rattle.poet_top.specs.Ending.{IsToldOf};
-ghost use Rattle.poet_top.specs.Ends.{Ends, EndsAsked, EndsOver};
+ghost use Rattle.poet_top.specs.Ends.{Ends, EndsAsked, EndsLoad, EndsOver};
 ghost use Rattle.poet_top.specs.FaultOutcome.{outcome_of_fault};
 ghost use Rattle.poet_top.specs.Outcome.{Answered, NotBegun, IsTold};
 ghost use Rattle.run_files.specs.Troubles.{trouble_of};
@@ -14,11 +16,12 @@ use crate::fault::Fault;
 use crate::replay::replay;
 use causal_base::Answer;
 use command_line::{AskPlan, Plan, plan_of};
+use load_run::load;
 use poet_io::{Files, Sink};
 use std::alloc::Global;
 use text_buffer::{Printed, put_whole};
 
-/// The status where the answer was written.
+/// The status where the answer was written, or what came of a load.
 const ANSWERED: u8 = 0;
 
 /// The status where a write failed.
@@ -43,6 +46,11 @@ pub(crate) const WRITE_FAILED: u8 = 3;
 /// of a file of events failed, 6 where one of its lines has a fault, 8 where 400,000 events came and
 /// there were more, 7 where memory ran out, 9 where two events have one id, 10 where events are
 /// held, else 0.
+///
+/// The words `load N` make a list of N events, up to 400,000, from a number, serve it as the texts of
+/// three collectors, and have six lines written: how many events there are, how many entries the
+/// journal has, how many numbers the stamps have, how many of them have all traces, how many events
+/// are before the last one, and the status, which is 0. It is 7 where memory ran out.
 pub fn poet_still<F: Files, K: Sink>(
     alloc: Global,
     words: &[String],
@@ -68,6 +76,7 @@ fn carry_out<F: Files, K: Sink>(alloc: Global, plan: Plan<'_>, files: &mut F, ou
     match plan {
         Plan::Ask(plan) => ask_and_tell(alloc, &plan, files, out),
         Plan::Replay(plan) => replay(alloc, &plan, files, out),
+        Plan::Load(events) => load_and_tell(alloc, events, out),
     }
 }
 
@@ -84,6 +93,18 @@ fn ask_and_tell<F: Files, K: Sink>(
     match ask(alloc, plan, files) {
         Ok(answer) => tell(answer, out),
         Err(fault) => refuse(&fault, out),
+    }
+}
+
+/// Makes a load of so many events, writes what came of it, and answers the status.
+fn load_and_tell<K: Sink>(alloc: Global, events: u32, out: &mut K) -> u8
+    requires { events ≤ MOST_EVENTS }
+    ensures { (files : FilesState) → IsToldOf (EndsLoad events files files) result
+        (K.state out.old) (K.state out.new) }
+{
+    match load(alloc, events) {
+        Ok(loaded) => put_with(&loaded, ANSWERED, out),
+        Err(_) => refuse(&Fault::Memory, out),
     }
 }
 

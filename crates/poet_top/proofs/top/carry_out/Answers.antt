@@ -16,3 +16,10 @@ returns-in-Ask g c =
 pub returns-in-Replay : goal.returns-in-Replay
 returns-in-Replay g c =
     subst (λ (plan : Plan). IsToldOf (EndsAsked (asked_by plan) (g.F.Files.state c.args.files.now) (g.F.Files.state c.replay.new.files)) c.replay.result (g.K.Sink.state c.args.out.now) (g.K.Sink.state c.replay.new.out)) (sym c.in-Replay.is) c.replay.ensures
+
+pub load_and_tell-requires : goal.load_and_tell-requires
+load_and_tell-requires g c = (subst (λ (plan : Plan). IsPlan c.requires.0 (asked_by plan)) c.in-Load.is c.requires.1).most
+
+pub returns-in-Load : goal.returns-in-Load
+returns-in-Load g c =
+    subst (λ (plan : Plan). IsToldOf (EndsAsked (asked_by plan) (g.F.Files.state c.args.files.now) (g.F.Files.state c.args.files.now)) c.load_and_tell.result (g.K.Sink.state c.args.out.now) (g.K.Sink.state c.load_and_tell.new.out)) (sym c.in-Load.is) (c.load_and_tell.ensures (g.F.Files.state c.args.files.now))

@@ -129,6 +129,10 @@ refused_stays reader fed taken byte error refused = elim refused [
   | inr met ↦ inr (record { lines = met.lines; fault = known_stays reader.types fed byte met.lines error met.fault; batches = met.batches })
 ]
 
+-- a reader that had kept the whole line, of which these bytes more were read
+abbrev pub with_line : ReaderState → List ℕ → List ℕ → ReaderState
+with_line reader line more = record reader { size = reader.size + length more; tail = line }
+
 module _ (reader : ReaderState) (fed : List ℕ) (taken : List (List Event)) (on : ReadsOn reader fed taken) where
   -- one byte too many
   pub too_large : (byte : ℕ) → reader.size ≡ MOST_INPUT → IsKnownAfter reader.types (fed ++ byte ∷ []) on.lines (record { line = reader.lines + 1; cause = TooLarge })
@@ -189,6 +193,20 @@ module _ (reader : ReaderState) (fed : List ℕ) (taken : List (List Event)) (on
     within = room_for byte room;
     count_is = lines ∙ on.count_is;
     batches = on.batches ∙ (ap (λ w. record { closed = taken ++ w; begun = reader.begun }) (sym waiting) ∙ ap (λ b. record { closed = taken ++ later.waiting; begun = b }) (sym begun));
+  }
+
+  -- the rest of a line together
+  pub line_on : (line more : List ℕ) → reader.tail ++ more ≡ line → IsOneLine line → length line ≤ MOST_LINE → reader.size + length more ≤ MOST_INPUT → ReadsOn (with_line reader line more) (fed ++ more) taken
+  line_on line more is one_line short room = let size = length-append fed more in let same = on.size_is in record {
+    lines = on.lines;
+    fit = on.fit;
+    fed_is = ap (λ b. b ++ more) on.fed_is ∙ (append_assoc (text_of_lines reader.types on.lines) reader.tail more ∙ ap (λ l. text_of_lines reader.types on.lines ++ l) is);
+    one_line = one_line;
+    short = short;
+    size_is = ap (λ n. n + length more) on.size_is ∙ sym size;
+    within = omega (arith, size, same, room);
+    count_is = on.count_is;
+    batches = on.batches;
   }
 
   -- a good line that ended

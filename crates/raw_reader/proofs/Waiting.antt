@@ -26,6 +26,3 @@ keeps_more before after batches (says e) was is =
     by_length : (full : Bool) → after.waiting ≡ (cond full (closed_off (record { closed = batches.closed; begun = batches.begun ++ e ∷ [] })) (record { closed = batches.closed; begun = batches.begun ++ e ∷ [] })).closed → KeepsWaiting before after
     by_length true is = record { more = piece_of (batches.begun ++ e ∷ []); behind = is ∙ ap (λ w. w ++ piece_of (batches.begun ++ e ∷ [])) was }
     by_length false is = keeps_same before after (is ∙ was)
-
--- both, for the loop over the bytes of a piece
-pub ruleset keeping = (keeps_same, keeps_through)

@@ -1,18 +1,19 @@
-ghost use Rattle.std.specs.Prelude.{◌≡◌, ◌≢◌, ◌⊎◌, ◌+◌, ◌<◌, ◌≤◌, ◌++◌, ◌∷◌, [], codes, length, ℕ, List, None, Some, IfSome, IfNone, IfOk, IfErr, OnOk, OnErr};
+ghost use Rattle.std.specs.Prelude.{◌≡◌, ◌≢◌, ◌⊎◌, ◌+◌, ◌<◌, ◌≤◌, ◌++◌, ◌∷◌, [], codes, length, take, ℕ, List, None, Some, IfSome, IfNone, IfOk, IfErr, OnOk, OnErr};
 ghost use Rattle.std.specs.List.{AllByRecursion};
 ghost use Rattle.causal_base.specs.declared.event.Event.{Event};
 ghost use Rattle.causal_base.specs.Event.{IsFit};
-ghost use Rattle.causal_base.specs.Spelling.{spelling};
 ghost use Rattle.raw_reader.specs.Causes.{IsCause};
+ghost use Rattle.raw_reader.specs.EventParts.{IsOneLine};
 ghost use Rattle.raw_reader.specs.declared.cause.LineError.{LineError};
 ghost use Rattle.raw_reader.specs.ReaderState.{HasRead, HasReadToEnd, KeepsWaiting};
-ghost use Rattle.raw_reader.specs.Texts.{piece_of, batches_with, line_of};
+ghost use Rattle.raw_reader.specs.Texts.{IsFitLine, piece_of, batches_with, line_bytes, line_of};
 
 use crate::batch::Batch;
 use crate::cause::{LineCause, LineError};
 use crate::event::event_from_parts;
 use crate::event_parts::parts_of;
 use crate::limits::{MOST_IN_BATCH, MOST_INPUT, MOST_LINE};
+use crate::split::first_line;
 use causal_base::{Event, Types};
 use std::alloc::{AllocError, Global};
 use std::collections::VecDeque;
@@ -78,7 +79,7 @@ impl<'a> Reader<'a> {
 
     /// Takes the next piece of the text. It is refused from the first fault on, and once memory ran
     /// out: then a piece changes nothing, and the refusal comes again.
-    #[tactic(auto, using(crate::proofs::Waiting::keeping))]
+    #[tactic(auto, using(crate::proofs::Waiting::keeps_same))]
     pub fn feed(&mut self, piece: &[u8]) -> Result<(), LineError>
         ensures types { self.new.types ≡ self.old.types }
         ensures stands { (fed : List ℕ) (taken : List (List Event)) → HasRead self.old fed taken
@@ -88,8 +89,9 @@ impl<'a> Reader<'a> {
         ensures ok { OnOk result (self.new.refusal ≡ None) }
         ensures err { IfErr result (λ error. self.new.refusal ≡ Some error) }
     {
-        for byte in piece {
-            self.take(*byte);
+        let mut start = 0;
+        while start < piece.len() {
+            start += self.take_some(&piece[start..]);
         }
         self.answer()
     }
@@ -156,6 +158,71 @@ impl<'a> Reader<'a> {
         self.waiting.pop_front()
     }
 
+    /// Takes the line that the bytes begin with where it may be taken whole, and else their first
+    /// byte. Says how many bytes it took.
+    #[tactic(auto, using(crate::proofs::Waiting::keeps_same))]
+    fn take_some(&mut self, bytes: &[u8]) -> usize
+        requires { 0 < length bytes.now }
+        ensures some { 0 < result }
+        ensures within { result ≤ length bytes.now }
+        ensures types { self.new.types ≡ self.old.types }
+        ensures stands { (fed : List ℕ) (taken : List (List Event)) → HasRead self.old fed taken
+            → HasRead self.new (fed ++ take result bytes.now) taken }
+        ensures kept { KeepsWaiting self.old self.new }
+        ensures again { (error : LineError) → self.old.refusal ≡ Some error → self.new ≡ self.old }
+    {
+        match self.whole_line(bytes) {
+            Some(line) => {
+                self.take_line(line);
+                line.len() + 1
+            }
+            None => {
+                self.take(bytes[0]);
+                1
+            }
+        }
+    }
+
+    /// The line that the bytes begin with, without its line feed. None where it can't be taken
+    /// whole: a line is open or something was refused, it doesn't end within the bytes, or it goes
+    /// past a limit.
+    fn whole_line<'b>(&self, bytes: &'b [u8]) -> Option<&'b [u8]>
+        ensures going { IfSome result (λ _. self.now.refusal ≡ None) }
+        ensures at_start { IfSome result (λ _. self.now.tail ≡ []) }
+        ensures ended { IfSome result (λ line. (rest : List ℕ)
+            × (bytes.now ≡ line.now ++ 10 ∷ rest)) }
+        ensures one_line { IfSome result (λ line. IsOneLine line.now) }
+        ensures short { IfSome result (λ line. length line.now ≤ MOST_LINE) }
+        ensures room { IfSome result (λ line. self.now.size + length line.now < MOST_INPUT) }
+    {
+        // Nothing is sought within an open line, so bytes without a line feed are looked through
+        // once.
+        if self.refusal.is_some() || !self.line.is_empty() {
+            return None;
+        }
+        let line = first_line(bytes)?;
+        if self.size + line.len() as u64 >= MOST_INPUT {
+            return None;
+        }
+        Some(line)
+    }
+
+    /// Takes a whole line, and the line feed behind it.
+    fn take_line(&mut self, line: &[u8])
+        requires going { self.old.refusal ≡ None }
+        requires at_start { self.old.tail ≡ [] }
+        requires one_line { IsOneLine line.now }
+        requires short { length line.now ≤ MOST_LINE }
+        requires room { self.old.size + length line.now < MOST_INPUT }
+        ensures types { self.new.types ≡ self.old.types }
+        ensures stands { (fed : List ℕ) (taken : List (List Event)) → HasRead self.old fed taken
+            → HasRead self.new (fed ++ (line.now ++ 10 ∷ [])) taken }
+        ensures kept { KeepsWaiting self.old self.new }
+    {
+        let read = self.line_read(line);
+        self.end_line(read, line.len() as u64 + 1);
+    }
+
     /// Takes one byte, unless there was a refusal.
     #[tactic(auto, using(crate::proofs::Waiting::keeps_same))]
     fn take(&mut self, byte: u8)
@@ -171,7 +238,8 @@ impl<'a> Reader<'a> {
         if self.size == MOST_INPUT {
             self.refuse(LineCause::TooLarge);
         } else if byte == b'\n' {
-            self.end_line();
+            let read = self.line_read(self.line.as_slice());
+            self.end_line(read, 1);
         } else if self.line.len() == MOST_LINE {
             self.refuse(LineCause::LongLine);
         } else if self.line.push(byte).is_err() {
@@ -181,48 +249,58 @@ impl<'a> Reader<'a> {
         }
     }
 
-    /// Takes the line feed that ends a line, and what the line says.
-    #[tactic(auto, using(crate::proofs::Waiting::keeps_same))]
-    fn end_line(&mut self)
-        requires going { self.old.refusal ≡ None }
-        requires room { self.old.size < MOST_INPUT }
-        ensures types { self.new.types ≡ self.old.types }
-        ensures stands { (fed : List ℕ) (taken : List (List Event)) → HasRead self.old fed taken
-            → HasRead self.new (fed ++ 10 ∷ []) taken }
-        ensures kept { KeepsWaiting self.old self.new }
-    {
-        match self.line_read() {
-            Ok(said) => {
-                if self.add(said).is_err() {
-                    self.refuse(LineCause::Oom);
-                } else {
-                    self.size += 1;
-                    self.lines += 1;
-                    self.line.clear();
-                }
-            }
-            Err(cause) => self.refuse(cause),
-        }
-    }
-
-    /// What the line says: an event, or none where it closes the batch.
-    fn line_read(&self) -> Result<Option<Event>, LineCause>
-        ensures some { IfOk result (λ said. IfSome said
-            (λ e. IsFit self.now.types e × (self.now.tail ≡ spelling self.now.types e))) }
-        ensures none { IfOk result (λ said. IfNone said (self.now.tail ≡ codes ".")) }
+    /// What a line says: an event, or none where it closes the batch.
+    fn line_read(&self, line: &[u8]) -> Result<Option<Event>, LineCause>
+        requires { IsOneLine line.now }
+        ensures ok { IfOk result (λ said. IsFitLine self.now.types (line_of said)
+            × (line.now ≡ line_bytes self.now.types (line_of said))) }
         ensures err { IfErr result (λ cause. (cause ≡ LineCause.Oom)
-            ⊎ ((self.now.tail ≢ codes ".") × IsCause self.now.types self.now.tail cause)) }
+            ⊎ ((line.now ≢ codes ".") × IsCause self.now.types line.now cause)) }
     {
-        if self.line.as_slice() == b".".as_slice() {
+        if line == b".".as_slice() {
             return Ok(None);
         }
-        let parts = match parts_of(self.line.as_slice(), self.types) {
+        let parts = match parts_of(line, self.types) {
             Ok(parts) => parts,
             Err(cause) => return Err(cause),
         };
         match event_from_parts(self.alloc, &parts) {
             Ok(event) => Ok(Some(event)),
             Err(_) => Err(LineCause::Oom),
+        }
+    }
+
+    /// Takes what was read in a line that has ended. So many bytes of it are new: those that
+    /// aren't kept, and its line feed.
+    #[tactic(auto, using(crate::proofs::Waiting::keeps_same))]
+    fn end_line(&mut self, read: Result<Option<Event>, LineCause>, bytes: u64)
+        requires going { self.old.refusal ≡ None }
+        requires some { 1 ≤ bytes }
+        requires room { self.old.size + bytes ≤ MOST_INPUT }
+        ensures types { self.new.types ≡ self.old.types }
+
+        // Where `more` and a line feed are the new bytes, and `read` is what the line says.
+        ensures stands { (line more fed : List ℕ) (taken : List (List Event))
+            → self.old.tail ++ more ≡ line → IsOneLine line → length line ≤ MOST_LINE
+            → length more + 1 ≡ bytes
+            → IfOk read (λ said. IsFitLine self.old.types (line_of said)
+            × (line ≡ line_bytes self.old.types (line_of said)))
+            → IfErr read (λ cause. (cause ≡ LineCause.Oom)
+            ⊎ ((line ≢ codes ".") × IsCause self.old.types line cause))
+            → HasRead self.old fed taken → HasRead self.new (fed ++ (more ++ 10 ∷ [])) taken }
+        ensures kept { KeepsWaiting self.old self.new }
+    {
+        match read {
+            Ok(said) => {
+                if self.add(said).is_err() {
+                    self.refuse(LineCause::Oom);
+                } else {
+                    self.size += bytes;
+                    self.lines += 1;
+                    self.line.clear();
+                }
+            }
+            Err(cause) => self.refuse(cause),
         }
     }
 
@@ -239,14 +317,13 @@ impl<'a> Reader<'a> {
               = self.new.begun;
         } }
     {
-        let mut events = mem::replace(&mut self.begun, Vec::new(self.alloc));
         if let Some(event) = said {
-            events.push(event)?;
-            if events.len() < MOST_IN_BATCH {
-                self.begun = events;
+            self.begun.push(event)?;
+            if self.begun.len() < MOST_IN_BATCH {
                 return Ok(());
             }
         }
+        let events = mem::replace(&mut self.begun, Vec::new(self.alloc));
         self.close(events)
     }
 

@@ -1,7 +1,24 @@
-ghost use Rattle.std.specs.Prelude.{ℕ, List, IfSome, IfNone};
+ghost use Rattle.std.specs.Prelude.{◌≡◌, ◌≤◌, ◌++◌, ◌∷◌, length, ℕ, List, IfSome, IfNone};
+ghost use Rattle.raw_reader.specs.EventParts.{IsOneLine};
 ghost use Rattle.raw_reader.specs.Splits.{IsSplit, IsTimeAndText};
 
+use crate::limits::MOST_LINE;
 use causal_base::split_once;
+use memchr::memchr;
+
+/// The first line of the bytes, without its line feed. None where it doesn't end within them, or
+/// is too long.
+pub fn first_line(bytes: &[u8]) -> Option<&[u8]>
+    ensures ended { IfSome result (λ line. (rest : List ℕ) × (bytes.now ≡ line.now ++ 10 ∷ rest)) }
+    ensures one_line { IfSome result (λ line. IsOneLine line.now) }
+    ensures short { IfSome result (λ line. length line.now ≤ MOST_LINE) }
+{
+    let end = memchr(b'\n', bytes)?;
+    if end > MOST_LINE {
+        return None;
+    }
+    Some(&bytes[..end])
+}
 
 /// The five fields of a line as they are written. The text is empty where the line has none.
 #[derive(Drop)]

@@ -91,10 +91,12 @@ fn refuses_all_else(rt: HostRuntime) -> Result<(), Fail> {
 /// How many batches the texts of the tests have at most.
 const MOST_BATCHES: usize = 4;
 
-/// What a reader makes of a text: how many events each batch has, and the refusal.
+/// What a reader makes of a text: how many events each batch has, the times of the events, and the
+/// refusal.
 #[derive(Debug, Drop)]
 struct Outcome {
     sizes: Vec<usize>,
+    times: Vec<u64>,
     error: Option<LineError>,
 }
 
@@ -110,6 +112,7 @@ fn read_pieces(
 {
     let mut reader = Reader::new(alloc, types);
     let mut sizes = Vec::new(alloc);
+    let mut times = Vec::new(alloc);
     let first = first.min(text.len());
     let mut fed = reader.feed(&text[..first]);
     for piece in text[first..].chunks(size) {
@@ -122,6 +125,9 @@ fn read_pieces(
     for _ in 0..MOST_BATCHES {
         if let Some(batch) = reader.take_batch() {
             sizes.push(batch.as_slice().len())?;
+            for event in batch.as_slice() {
+                times.push(event.time)?;
+            }
         }
     }
     let error = match (fed, ended) {
@@ -129,7 +135,11 @@ fn read_pieces(
         (Ok(()), Err(error)) => Some(error),
         _ => None,
     };
-    Ok(Outcome { sizes, error })
+    Ok(Outcome {
+        sizes,
+        times,
+        error,
+    })
 }
 
 /// So many lines of events of one trace, numbered from 1.
@@ -254,6 +264,60 @@ fn reads_texts_in_any_pieces(rt: HostRuntime) -> Result<(), Fail> {
     Ok(())
 }
 
+/// Longer texts, each with the sizes of its batches, the times of their events, and its first fault.
+const LONG_TEXTS: [(&str, &[usize], &[u64], Option<(u64, LineCause)>); 5] = [
+    (
+        "0.1 s - 10\n1.1 r 0.1 20\n.\n0.2 y 2.1 31\n2.1 y 0.2 32\n.\n.\n0.3 u - 40 a text\n",
+        &[2, 2, 1],
+        &[10, 20, 31, 32, 40],
+        None,
+    ),
+    (
+        "0.1 u - 1 a text that is longer than sixty bytes, with  two spaces and a . in it\n.\n0.2 u - 2\n",
+        &[1, 1],
+        &[1, 2],
+        None,
+    ),
+    (
+        "0.1 u - 1\n0.2 u - 2\n.\n0.3 u - 3\n0.4 r - 4\n0.5 u - 5\n.\n",
+        &[2],
+        &[1, 2],
+        Some((5, LineCause::MateMissing)),
+    ),
+    (
+        "0.1 u - 1\n.\n\n0.2 u - 2\n.\n",
+        &[1],
+        &[1],
+        Some((3, LineCause::Shape)),
+    ),
+    (
+        "0.1 u - 1\n0.2 u - 2\n.\n0.3 u - 3\n0.4 u - 4 no end",
+        &[2],
+        &[1, 2],
+        Some((5, LineCause::Unended)),
+    ),
+];
+
+#[test]
+fn reads_alike_in_pieces_of_each_length(rt: HostRuntime) -> Result<(), Fail> {
+    let alloc = rt.alloc();
+    let types = Types::builtin(alloc, 7)?;
+    for (text, sizes, times, error) in LONG_TEXTS {
+        let whole = read_pieces(alloc, &types, text.as_bytes(), text.len(), 1)?;
+        assert!(rt; is_told(&whole, sizes, error), "{text} whole");
+        assert_eq!(rt; whole.times.as_slice(), times);
+        for size in 1..61 {
+            let outcome = read_pieces(alloc, &types, text.as_bytes(), 0, size)?;
+            assert!(rt;
+                is_told(&outcome, sizes, error),
+                "{text} in pieces of {size}"
+            );
+            assert_eq!(rt; outcome.times.as_slice(), times);
+        }
+    }
+    Ok(())
+}
+
 #[test]
 fn reads_up_to_its_limits(rt: HostRuntime) -> Result<(), Fail> {
     let alloc = rt.alloc();
@@ -286,7 +350,7 @@ fn reads_up_to_its_limits(rt: HostRuntime) -> Result<(), Fail> {
         }
         let mut behind = Vec::from_slice(alloc, FRONT)?;
         behind.extend_from_slice(&text)?;
-        for (first, size) in [(0, 1), (7, 64), (400, 1000)] {
+        for (first, size) in [(0, 1), (0, 1000), (7, 64), (400, 1000)] {
             assert!(rt; size > 0);
             let outcome = read_pieces(alloc, &types, &text, first, size)?;
             assert!(rt;

@@ -1,7 +1,8 @@
-use Rattle.std.proofs.Common.{◌≡◌, cond, ◌+◌, ◌∷◌, [], ◌++◌, length, refl, sym, ◌∙◌, ap, arith}
+use Rattle.std.proofs.Common.{◌≡◌, cond, ◌+◌, ◌∷◌, [], ◌++◌, length, refl, sym, ◌∙◌, ap, subst, arith, append-nil}
 use Rattle.std.specs.Option.{is_some}
 use Rattle.raw_reader.specs.declared.cause.LineCause.TheVariants.{TooLarge, LongLine, Oom}
-use Rattle.raw_reader.specs.ReaderState.{ReaderState}
+use Rattle.raw_reader.specs.EventParts.{IsOneLine}
+use Rattle.raw_reader.specs.ReaderState.{ReaderState, HasRead}
 use Rattle.raw_reader.proofs.ReaderSteps.{goes_on, going, still_refused, none_from, too_large, too_long, pushed, refused_at, out_at}
 use Rattle.raw_reader.proofs.reader.Reader.take.Goals as goal
 
@@ -63,3 +64,14 @@ returns-else-is_err-clause-stands c fed taken stands =
     (let least = on.short in omega (arith, length_is, least, c.len.ensures, c.if-len-eq-MOST_LINE.false))
     (ap (λ (r : ReaderState). r.types) c.self.view_is) (ap (λ n. n + 1) size) (ap (λ (r : ReaderState). r.lines) c.self.view_is) pushed_is
     (ap (λ (r : ReaderState). r.begun) c.self.view_is) (ap (λ (r : ReaderState). r.waiting) c.self.view_is))
+
+pub returns-then-byte-eq10-clause-stands : goal.returns-then-byte-eq10-clause-stands
+returns-then-byte-eq10-clause-stands c fed taken stands =
+    let reader = c.args.self.now in
+    let none = none_from reader.refusal (sym (ap (λ (r : ReaderState). is_some r.refusal) c.self.view_is) ∙ sym c.if-is_some.ensures) in
+    let on = goes_on reader fed taken none stands in
+    let line = c.as_slice.result.now in
+    let is : reader.tail ≡ line = sym (c.as_slice.ensures.value ∙ ap (λ (r : ReaderState). r.tail) c.self.view_is) in
+    subst (λ byte. HasRead c.end_line.new.self (fed ++ byte ∷ []) taken) (sym c.if-byte-eq10.true)
+    (c.end_line.ensures.stands line [] fed taken (append-nil reader.tail ∙ is) (subst IsOneLine is on.one_line) (let size = ap length is in let short = on.short in omega (arith, size, short)) refl
+    c.line_read-read.ensures.ok c.line_read-read.ensures.err stands)

@@ -154,6 +154,29 @@ module _ (types : TypeTable) (e : Event) (events : List Event) (history : List E
         lower = both.lower;
       })))
 
+  -- An event behind others of its trace enables nothing.
+  module _ (behind : IsNextOfTrace (all_events history) e → ⊥) where
+    next_had_come : (x : Event) → Contains (e ∷ events) x → IsNextOfTrace (all_events history) x → Contains events x
+    next_had_come x inside next = elim (Contains-cons e events x inside) [ inl is ↦ absurd (behind (subst (IsNextOfTrace (all_events history)) (sym is) next)) | inr before ↦ before ]
+
+    pub enabled_behind : (block : Block) → IsEnabledAmong types (e ∷ events) history block → IsEnabledAmong types events history block
+    enabled_behind (One a) enabled =
+        let x = ready_from_enabled types (e ∷ events) history history_more a enabled in
+        subst (λ i. IsEnabledAmong types events history (One i)) x.2 (enabled_from_ready types events history basis x.0 (next_had_come x.0 x.1 x.3) x.3 x.4)
+    enabled_behind (Two a b) enabled =
+        let p = partners_from_enabled types (e ∷ events) history history_more a b enabled in
+        let both = p.4 in
+        subst (λ i. IsEnabledAmong types events history (Two i b)) p.2
+        (subst (λ i. IsEnabledAmong types events history (Two p.0.id i)) p.3
+        (enabled_from_partners types events history basis p.0 p.1 (record {
+          first_came = next_had_come p.0 both.first_came both.first_next;
+          second_came = next_had_come p.1 both.second_came both.second_next;
+          first_next = both.first_next;
+          second_next = both.second_next;
+          pairs = both.pairs;
+          lower = both.lower;
+        })))
+
   -- the set after the trace of the event was looked at
   pub ready_came : (ready later : List ℕ) → IsReadySet types events history ready
       → ((other : ℕ) → other < 256 → IsIn ready other → IsIn later other)

@@ -14,7 +14,7 @@ use Rattle.causal_base.proofs.CallerLemmas.{AreNextPartners, Contains-cons, deli
 use Rattle.partner_match.specs.Waiting.{Waits, waiting_for}
 use Rattle.delivery.specs.TraceSets.{IsIn}
 use Rattle.delivery.specs.Deliveries.{AllWait, AreParts, IsReadySet}
-use Rattle.delivery.proofs.Leaders.{IsOf, history_more, ready_came}
+use Rattle.delivery.proofs.Leaders.{IsOf, enabled_behind, history_more, ready_came}
 use Rattle.delivery.proofs.Looks.{AreLooked}
 use Rattle.delivery.proofs.Going.{IsShared, history_one, ready_one, wait_one, history_two, ready_two, wait_two}
 
@@ -162,6 +162,14 @@ module _ (types : TypeTable) (past : List Entry) (waits : Waits) (ready : List �
   module _ (collector : ℕ) (e : Event) (fit : IsFit types e) (new : HasEvent (came past) e.id → ⊥) (past_after : List Entry) (is_past : past_after ≡ Came collector e ∷ past) where
     pub basis_came : IsHistoryOf types (came past_after) (deliveries past_after)
     basis_came = over (IsHistoryOf types) (e ∷ came past) (came past_after) (deliveries past) (deliveries past_after) (sym (ap came is_past)) (sym (ap deliveries is_past)) (history_more types e (came past) (deliveries past) parts.history fit new)
+
+    -- behind others of its trace it enables nothing, so a look would find nothing
+    pub looked_behind : (IsNextOfTrace (delivered past) e → ⊥) → AreLooked types (came past_after) (deliveries past_after) (λ trace. trace ≡ e.id.trace) ready ready
+    looked_behind behind = over (λ es h. AreLooked types es h (λ trace. trace ≡ e.id.trace) ready ready) (e ∷ came past) (came past_after) (deliveries past) (deliveries past_after) (sym (ap came is_past)) (sym (ap deliveries is_past)) (record {
+      kept = λ other below is. is;
+      sound = λ other below is. inl is;
+      found = λ block trace enabled has is. parts.ready_set.complete block (enabled_behind types e (came past) (deliveries past) parts.history fit new behind block enabled);
+    })
 
     pub parts_came : (set : List ℕ) (after : Waits)
         → AreLooked types (came past_after) (deliveries past_after) (λ trace. trace ≡ e.id.trace) ready set

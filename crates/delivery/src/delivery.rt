@@ -13,7 +13,7 @@ ghost use Rattle.partner_match.specs.Waiting.{waiting_for};
 ghost use Rattle.delivery.specs.Deliveries.{AreParts};
 ghost use Rattle.delivery.specs.Leading.{entry_of};
 
-use crate::looking::{look, look_at_each};
+use crate::looking::{look, wake};
 use crate::trace_set::TraceSet;
 use causal_base::{
     Accepted, Block, Event, EventId, MOST_COLLECTORS, MOST_EVENTS, Refusal, Types, enabled_on,
@@ -119,6 +119,19 @@ impl Delivery {
         } }
     {
         let block = self.next_block()?;
+        self.deliver_block(block);
+        Some(block)
+    }
+
+    /// Delivers this block, which is Next: what a caller does that has asked for it already. It
+    /// takes no memory.
+    pub fn deliver_block(&mut self, block: Block)
+        requires { IsNext self.old.types (reverse self.old.journal) block }
+        ensures { self.new ≡ record {
+          types = self.old.types;
+          journal = self.old.journal ++ entry_of block ∷ [];
+        } }
+    {
         match block {
             Block::One(id) => deliver_one(
                 &self.types,
@@ -136,7 +149,6 @@ impl Delivery {
                 second,
             ),
         }
-        Some(block)
     }
 
     /// A collector that hasn't ended brings no more. It takes no memory.
@@ -261,10 +273,13 @@ fn take_in(
     ensures ok { OnOk result (journal.new ≡ journal.old ++ Came collector event ∷ []) }
     ensures err { OnErr result (journal.new ≡ journal.old) }
 {
-    let trace = event.id.trace;
+    let id = event.id;
     wait_for_mate(types, journal, waiting, &event)?;
     journal.push_came(collector, event)?;
-    look(types, journal, ready, trace);
+    // Behind others of its trace it enables nothing.
+    if id.number == journal.delivered_on(id.trace) + 1 {
+        look(types, journal, ready, id.trace);
+    }
     Ok(())
 }
 
@@ -331,8 +346,7 @@ fn deliver_one(
     journal.push_gone(id);
     ready.remove(id.trace);
     look(types, journal, ready, id.trace);
-    look_at_each(types, journal, ready, waiting.woken(id));
-    waiting.forget(id);
+    wake(types, journal, waiting, ready, id);
 }
 
 /// Delivers the two partners that are Next.
@@ -356,8 +370,6 @@ fn deliver_two(
     ready.remove(first.trace);
     look(types, journal, ready, first.trace);
     look(types, journal, ready, second.trace);
-    look_at_each(types, journal, ready, waiting.woken(first));
-    look_at_each(types, journal, ready, waiting.woken(second));
-    waiting.forget(first);
-    waiting.forget(second);
+    wake(types, journal, waiting, ready, first);
+    wake(types, journal, waiting, ready, second);
 }

@@ -1,16 +1,19 @@
 //! Which traces lead, told by a look at one trace, or at those that wait.
 
-ghost use Rattle.std.specs.Prelude.{◌≡◌, ◌<◌, ◌⊎◌, ℕ, reverse, Contains};
+ghost use Rattle.std.specs.Prelude.{◌≡◌, ◌≢◌, ◌<◌, ◌⊎◌, ℕ, reverse, Contains};
 ghost use Rattle.causal_base.specs.declared.block.Block.{Block};
+ghost use Rattle.causal_base.specs.declared.event_id.EventId.{EventId};
 ghost use Rattle.causal_base.specs.declared.limits.TheConstants.{MOST_TRACES};
 ghost use Rattle.causal_base.specs.Past.{came, deliveries, HasTrace, IsEnabled, IsHistoryOf};
+ghost use Rattle.partner_match.specs.Waiting.{waiting_for};
 ghost use Rattle.delivery.specs.Leading.{first_trace, Leads};
 ghost use Rattle.delivery.specs.TraceSets.{IsIn};
 
 use crate::trace_set::TraceSet;
-use causal_base::{Block, Types, enabled_on};
+use causal_base::{Block, EventId, Types, enabled_on};
 use causal_laws::next_is_one;
 use journal::Journal;
+use partner_match::Matcher;
 
 /// Adds to the set the trace that leads the enabled block with an event of this trace, if there is
 /// one.
@@ -49,6 +52,36 @@ pub(crate) fn look_at_each(types: &Types, journal: &Journal, ready: &mut TraceSe
     for trace in traces {
         look(types, journal, ready, *trace);
     }
+}
+
+/// Looks at each trace that waits for the event with this id, and has none of them wait for it any
+/// more.
+pub(crate) fn wake(
+    types: &Types,
+    journal: &Journal,
+    waiting: &mut Matcher,
+    ready: &mut TraceSet,
+    id: EventId,
+)
+    requires { IsHistoryOf types.now (came (reverse journal.now))
+        (deliveries (reverse journal.now)) }
+    ensures kept { (other : ℕ) → other < MOST_TRACES → IsIn ready.old other → IsIn ready.new other }
+    ensures sound { (other : ℕ) → other < MOST_TRACES → IsIn ready.new other
+        → IsIn ready.old other
+        ⊎ Leads types.now (came (reverse journal.now)) (deliveries (reverse journal.now)) other }
+    ensures found { (block : Block) (trace : ℕ) → IsEnabled types.now (reverse journal.now) block
+        → HasTrace block trace → Contains (waiting_for waiting.old id) trace
+        → IsIn ready.new (first_trace block) }
+    ensures others { (other : EventId) → other ≢ id
+        → waiting_for waiting.new other ≡ waiting_for waiting.old other }
+{
+    let traces = waiting.woken(id);
+    // Most events are waited for by none, and nothing is to be forgotten then.
+    if traces.is_empty() {
+        return;
+    }
+    look_at_each(types, journal, ready, traces);
+    waiting.forget(id);
 }
 
 /// The trace with which a block leads.

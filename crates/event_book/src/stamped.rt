@@ -16,7 +16,7 @@ ghost use Rattle.event_book.specs.Stamping.{IsMergeOf, IsStamped, parts_by, full
 use crate::cluster::merge_clusters;
 use causal_base::{Accepted, Block, Causal, Event, EventId, MOST_EVENTS, Refusal, Steps, Types};
 use causal_laws::{
-    delivered_are_numbered, delivered_has_own_id, delivered_is_on_a_trace, next_is_one, stamp_stays,
+    delivered_are_numbered, delivered_has_own_id, delivered_is_on_a_trace, stamp_stays,
 };
 use cluster_levels::Levels;
 use cluster_merge::Merge;
@@ -221,10 +221,9 @@ impl Stamped {
         ensures journal { self.new.journal ≡ self.old.journal ++ Gone id ∷ [] }
         ensures clustering { clustering_of self.new.levels ≡ clustering_of self.old.levels }
     {
-        next_is_one();
         stamp_stays();
         delivered_is_on_a_trace();
-        self.delivery.deliver();
+        self.delivery.deliver_block(Block::One(id));
         merge_clusters(&mut self.levels, merge);
         self.full += full_of(&self.levels, &stamp);
         self.stamps.add(id, stamp);
@@ -256,10 +255,9 @@ impl Stamped {
         ensures journal { self.new.journal ≡ self.old.journal ++ Pair first second ∷ [] }
         ensures clustering { clustering_of self.new.levels ≡ clustering_of self.old.levels }
     {
-        next_is_one();
         stamp_stays();
         delivered_is_on_a_trace();
-        self.delivery.deliver();
+        self.delivery.deliver_block(Block::Two(first, second));
         merge_clusters(&mut self.levels, Some(merge));
         self.full += full_of(&self.levels, &first_stamp) + full_of(&self.levels, &second_stamp);
         self.stamps.add(first, first_stamp);

@@ -2,7 +2,13 @@
 
 ghost use Rattle.std.specs.Prelude.{◌<◌};
 
-use crate::rows::{Row, TYPES, damaged, deliveries, files, lines, loads, words};
+use crate::rows::damaged::damaged;
+use crate::rows::deliveries::deliveries;
+use crate::rows::files::files;
+use crate::rows::lines::lines;
+use crate::rows::loads::loads;
+use crate::rows::words::words;
+use crate::rows::{Row, TYPES};
 use poet_io::{MemFolder, MemSink};
 use poet_top::poet_still;
 use std::alloc::{AllocError, Global};

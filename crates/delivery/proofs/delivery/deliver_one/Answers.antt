@@ -1,4 +1,4 @@
-use Rattle.std.proofs.Common.{◌≡◌, reverse, sym, ◌∙◌, ap, subst, arith}
+use Rattle.std.proofs.Common.{◌≡◌, reverse, ◌∙◌, ap, subst, arith}
 use Rattle.std.specs.Prelude.{Contains}
 use Rattle.causal_base.specs.declared.entry.Entry.TheVariants.{Gone}
 use Rattle.causal_base.specs.Past.{came, deliveries, HasTrace}
@@ -26,8 +26,8 @@ look-requires c =
     basis_one c.args.types.now (reverse c.args.journal.now) c.args.waiting.now c.args.ready.now c.requires.parts c.args.id c.requires.next.enabled (reverse c.push_gone.new.self)
     (ap reverse c.push_gone.ensures ∙ reverse-push c.args.journal.now (Gone c.args.id))
 
-pub look_at_each-requires : goal.look_at_each-requires
-look_at_each-requires c =
+pub wake-requires : goal.wake-requires
+wake-requires c =
     basis_one c.args.types.now (reverse c.args.journal.now) c.args.waiting.now c.args.ready.now c.requires.parts c.args.id c.requires.next.enabled (reverse c.push_gone.new.self)
     (ap reverse c.push_gone.ensures ∙ reverse-push c.args.journal.now (Gone c.args.id))
 
@@ -43,13 +43,13 @@ returns-clause-parts c =
       sound = c.look.ensures.sound;
       found = λ block trace enabled has is. c.look.ensures.found block enabled (subst (HasTrace block) is has);
     } in
-    let rest : AreLooked types (came after) (deliveries after) (λ trace. Contains (waiting_for c.args.waiting.now c.args.id) trace) c.look.new.ready c.look_at_each.new.ready = record {
-      kept = c.look_at_each.ensures.kept;
-      sound = c.look_at_each.ensures.sound;
-      found = λ block trace enabled has inside. c.look_at_each.ensures.found block trace enabled has (subst (λ ts. Contains ts trace) (sym c.woken.ensures) inside);
+    let rest : AreLooked types (came after) (deliveries after) (λ trace. Contains (waiting_for c.args.waiting.now c.args.id) trace) c.look.new.ready c.wake.new.ready = record {
+      kept = c.wake.ensures.kept;
+      sound = c.wake.ensures.sound;
+      found = λ block trace enabled has inside. c.wake.ensures.found block trace enabled has inside;
     } in
     parts_one types past c.args.waiting.now c.args.ready.now c.requires.parts c.args.id c.requires.next.enabled after is_past
     (c.next_is_one.ensures.shared types (came past) (deliveries past) c.requires.parts.history)
-    c.remove.new.self c.look_at_each.new.ready c.forget.new.self c.remove.ensures
-    (looked_both types (came after) (deliveries after) basis c.requires.parts.table.most_traces (λ trace. trace ≡ c.args.id.trace) (λ trace. Contains (waiting_for c.args.waiting.now c.args.id) trace) c.remove.new.self c.look.new.ready c.look_at_each.new.ready first rest)
-    c.forget.ensures.others
+    c.remove.new.self c.wake.new.ready c.wake.new.waiting c.remove.ensures
+    (looked_both types (came after) (deliveries after) basis c.requires.parts.table.most_traces (λ trace. trace ≡ c.args.id.trace) (λ trace. Contains (waiting_for c.args.waiting.now c.args.id) trace) c.remove.new.self c.look.new.ready c.wake.new.ready first rest)
+    c.wake.ensures.others

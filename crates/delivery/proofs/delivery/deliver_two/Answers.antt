@@ -1,6 +1,7 @@
-use Rattle.std.proofs.Common.{◌≡◌, ◌⊎◌, reverse, inl, inr, sym, ◌∙◌, ap, subst, arith}
+use Rattle.std.proofs.Common.{◌≡◌, ◌≢◌, ◌⊎◌, reverse, inl, inr, sym, ◌∙◌, ap, subst, arith}
 use Rattle.std.specs.Prelude.{Contains}
 use Rattle.causal_base.specs.declared.entry.Entry.TheVariants.{Pair}
+use Rattle.causal_base.specs.declared.event_id.EventId.{EventId}
 use Rattle.causal_base.specs.Past.{came, deliveries, HasTrace}
 use Rattle.causal_base.proofs.CallerLemmas.{reverse-push}
 use Rattle.partner_match.specs.Waiting.{waiting_for}
@@ -37,13 +38,13 @@ look-requires-2 c =
     basis_two c.args.types.now (reverse c.args.journal.now) c.args.waiting.now c.args.ready.now c.requires.parts c.args.first c.args.second c.requires.next.enabled (reverse c.push_pair.new.self)
     (ap reverse c.push_pair.ensures ∙ reverse-push c.args.journal.now (Pair c.args.first c.args.second))
 
-pub look_at_each-requires : goal.look_at_each-requires
-look_at_each-requires c =
+pub wake-requires : goal.wake-requires
+wake-requires c =
     basis_two c.args.types.now (reverse c.args.journal.now) c.args.waiting.now c.args.ready.now c.requires.parts c.args.first c.args.second c.requires.next.enabled (reverse c.push_pair.new.self)
     (ap reverse c.push_pair.ensures ∙ reverse-push c.args.journal.now (Pair c.args.first c.args.second))
 
-pub look_at_each-requires-2 : goal.look_at_each-requires-2
-look_at_each-requires-2 c =
+pub wake-requires-2 : goal.wake-requires-2
+wake-requires-2 c =
     basis_two c.args.types.now (reverse c.args.journal.now) c.args.waiting.now c.args.ready.now c.requires.parts c.args.first c.args.second c.requires.next.enabled (reverse c.push_pair.new.self)
     (ap reverse c.push_pair.ensures ∙ reverse-push c.args.journal.now (Pair c.args.first c.args.second))
 
@@ -55,6 +56,8 @@ returns-clause-parts c =
     let is_past = ap reverse c.push_pair.ensures ∙ reverse-push c.args.journal.now (Pair c.args.first c.args.second) in
     let basis = basis_two c.args.types.now (reverse c.args.journal.now) c.args.waiting.now c.args.ready.now c.requires.parts c.args.first c.args.second c.requires.next.enabled after is_past in
     let most = c.requires.parts.table.most_traces in
+    let lower = lower_two c.args.types.now past c.args.waiting.now c.args.ready.now c.requires.parts c.args.first c.args.second c.requires.next.enabled in
+    let apart : c.args.second ≢ c.args.first = λ is. omega (arith, lower, ap (λ (i : EventId). i.trace) is) in
     let one : AreLooked types (came after) (deliveries after) (λ trace. trace ≡ c.args.first.trace) c.remove.new.self c.look.new.ready = record {
       kept = c.look.ensures.kept;
       sound = c.look.ensures.sound;
@@ -65,20 +68,20 @@ returns-clause-parts c =
       sound = c.look-2.ensures.sound;
       found = λ block trace enabled has is. c.look-2.ensures.found block enabled (subst (HasTrace block) is has);
     } in
-    let three : AreLooked types (came after) (deliveries after) (λ trace. Contains (waiting_for c.args.waiting.now c.args.first) trace) c.look-2.new.ready c.look_at_each.new.ready = record {
-      kept = c.look_at_each.ensures.kept;
-      sound = c.look_at_each.ensures.sound;
-      found = λ block trace enabled has inside. c.look_at_each.ensures.found block trace enabled has (subst (λ ts. Contains ts trace) (sym c.woken.ensures) inside);
+    let three : AreLooked types (came after) (deliveries after) (λ trace. Contains (waiting_for c.args.waiting.now c.args.first) trace) c.look-2.new.ready c.wake.new.ready = record {
+      kept = c.wake.ensures.kept;
+      sound = c.wake.ensures.sound;
+      found = c.wake.ensures.found;
     } in
-    let four : AreLooked types (came after) (deliveries after) (λ trace. Contains (waiting_for c.args.waiting.now c.args.second) trace) c.look_at_each.new.ready c.look_at_each-2.new.ready = record {
-      kept = c.look_at_each-2.ensures.kept;
-      sound = c.look_at_each-2.ensures.sound;
-      found = λ block trace enabled has inside. c.look_at_each-2.ensures.found block trace enabled has (subst (λ ts. Contains ts trace) (sym c.woken-2.ensures) inside);
+    let four : AreLooked types (came after) (deliveries after) (λ trace. Contains (waiting_for c.args.waiting.now c.args.second) trace) c.wake.new.ready c.wake-2.new.ready = record {
+      kept = c.wake-2.ensures.kept;
+      sound = c.wake-2.ensures.sound;
+      found = λ block trace enabled has inside. c.wake-2.ensures.found block trace enabled has (subst (λ ts. Contains ts trace) (sym (c.wake.ensures.others c.args.second apart)) inside);
     } in
     let both = looked_both types (came after) (deliveries after) basis most (λ trace. trace ≡ c.args.first.trace) (λ trace. trace ≡ c.args.second.trace) c.remove.new.self c.look.new.ready c.look-2.new.ready one two in
-    let rest = looked_both types (came after) (deliveries after) basis most (λ trace. Contains (waiting_for c.args.waiting.now c.args.first) trace) (λ trace. Contains (waiting_for c.args.waiting.now c.args.second) trace) c.look-2.new.ready c.look_at_each.new.ready c.look_at_each-2.new.ready three four in
+    let rest = looked_both types (came after) (deliveries after) basis most (λ trace. Contains (waiting_for c.args.waiting.now c.args.first) trace) (λ trace. Contains (waiting_for c.args.waiting.now c.args.second) trace) c.look-2.new.ready c.wake.new.ready c.wake-2.new.ready three four in
     parts_two c.args.types.now (reverse c.args.journal.now) c.args.waiting.now c.args.ready.now c.requires.parts c.args.first c.args.second c.requires.next.enabled after is_past
     (c.next_is_one.ensures.shared types (came past) (deliveries past) c.requires.parts.history)
-    c.remove.new.self c.look_at_each-2.new.ready c.forget-2.new.self c.remove.ensures
-    (looked_both types (came after) (deliveries after) basis most (λ trace. (trace ≡ c.args.first.trace) ⊎ (trace ≡ c.args.second.trace)) (λ trace. Contains (waiting_for c.args.waiting.now c.args.first) trace ⊎ Contains (waiting_for c.args.waiting.now c.args.second) trace) c.remove.new.self c.look-2.new.ready c.look_at_each-2.new.ready both rest)
-    (λ other apart. c.forget-2.ensures.others other (λ is. apart (inr is)) ∙ c.forget.ensures.others other (λ is. apart (inl is)))
+    c.remove.new.self c.wake-2.new.ready c.wake-2.new.waiting c.remove.ensures
+    (looked_both types (came after) (deliveries after) basis most (λ trace. (trace ≡ c.args.first.trace) ⊎ (trace ≡ c.args.second.trace)) (λ trace. Contains (waiting_for c.args.waiting.now c.args.first) trace ⊎ Contains (waiting_for c.args.waiting.now c.args.second) trace) c.remove.new.self c.look-2.new.ready c.wake-2.new.ready both rest)
+    (λ other apart. c.wake-2.ensures.others other (λ is. apart (inr is)) ∙ c.wake.ensures.others other (λ is. apart (inl is)))

@@ -15,7 +15,7 @@ use Rattle.cluster_levels.specs.Levels.{StandsAfter, clustering_of}
 use Rattle.delivery.specs.Deliveries.{TypedJournal}
 use Rattle.delivery.specs.Leading.{entry_of}
 use Rattle.event_book.specs.Stamping.{IsMergeOf, IsStamped, StampedState}
-use Rattle.event_book.proofs.Blocks.{one_found, went_is}
+use Rattle.event_book.proofs.Blocks.{one_found}
 use Rattle.event_book.proofs.Going.{communications_with, full_few, most_one, number_one, on_one, stamped_one}
 use Rattle.event_book.proofs.stamped.Stamped.deliver_one.Goals as goal
 
@@ -28,6 +28,10 @@ merge_clusters-requires-clause-planned c =
     let next = subst (λ (v : StampedState). IsNext v.types (reverse v.journal) (One c.args.id)) (sym c.self.view_is) c.requires.next in
     let found = one_found s.types s.journal c.args.id next in
     (subst (λ (v : StampedState). (e : Event) → event_of (came_by v.journal) c.args.id ≡ Some e → IsMergeOf v.levels (alone e) c.args.merge) (sym c.self.view_is) c.requires.merge found.0 found.1).planned
+
+pub deliver_block-requires : goal.deliver_block-requires
+deliver_block-requires c =
+    subst (λ (v : StampedState). IsNext v.types (reverse v.journal) (One c.args.id)) (sym c.self.view_is) c.requires.next
 
 pub overflow_add-self : goal.overflow_add-self
 overflow_add-self c =
@@ -63,10 +67,8 @@ invariant_of-self c =
     let found = one_found s.types s.journal c.args.id next in
     let merges = subst (λ (v : StampedState). (e : Event) → event_of (came_by v.journal) c.args.id ≡ Some e → IsMergeOf v.levels (alone e) c.args.merge) (sym c.self.view_is) c.requires.merge found.0 found.1 in
     let its = subst (λ (v : StampedState). (e : Event) → event_of (came_by v.journal) c.args.id ≡ Some e → IsStamp v.types (clustering_of v.levels) (alone e ∷ deliveries_by v.journal) e c.args.stamp) (sym c.self.view_is) c.requires.stamp found.0 found.1 in
-    let went = went_is s.types s.journal c.self.invariant.legal (One c.args.id) next c.deliver.result (c.next_is_one.ensures.journal s.types s.journal c.self.invariant.legal) c.deliver.ensures.some c.deliver.ensures.none in
     let gone : TypedJournal = record { types = old.types; journal = old.journal ++ Gone c.args.id ∷ [] } in
-    let is : c.deliver.new.self ≡ gone =
-    c.deliver.ensures.delivered ∙ ap (λ (r : Option Block). let d : TypedJournal = record { types = old.types; journal = old.journal ++ option_to_list (option_map entry_of r) } in d) went in
+    let is : c.deliver_block.new.self ≡ gone = c.deliver_block.ensures in
     subst (λ (d : TypedJournal). IsStamped (record { types = d.types; journal = d.journal; levels = c.merge_clusters.new.levels; stamps = c.add.new.self; full = c.self.inside.full + c.full_of.result })) (sym is)
     (stamped_one s c.self.invariant c.args.id next c.stamp_stays.ensures c.merge_clusters.new.levels c.add.new.self (c.self.inside.full + c.full_of.result) c.args.stamp
     c.merge_clusters.ensures.made_with
@@ -78,9 +80,5 @@ invariant_of-self c =
 
 pub returns-clause-journal : goal.returns-clause-journal
 returns-clause-journal c =
-    let old = c.self.inside.delivery in
-    let next = subst (λ (v : StampedState). IsNext v.types (reverse v.journal) (One c.args.id)) (sym c.self.view_is) c.requires.next in
-    let went = went_is old.types old.journal c.self.invariant.legal (One c.args.id) next c.deliver.result (c.next_is_one.ensures.journal old.types old.journal c.self.invariant.legal) c.deliver.ensures.some c.deliver.ensures.none in
-    ap (λ (d : TypedJournal). d.journal) c.deliver.ensures.delivered
-    ∙ (ap (λ (r : Option Block). old.journal ++ option_to_list (option_map entry_of r)) went
-    ∙ ap (λ (v : StampedState). v.journal ++ Gone c.args.id ∷ []) c.self.view_is)
+    ap (λ (d : TypedJournal). d.journal) c.deliver_block.ensures
+    ∙ ap (λ (v : StampedState). v.journal ++ Gone c.args.id ∷ []) c.self.view_is

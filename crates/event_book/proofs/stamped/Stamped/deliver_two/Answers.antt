@@ -17,7 +17,7 @@ use Rattle.delivery.specs.Leading.{entry_of}
 use Rattle.event_book.specs.Stamping.{IsMergeOf, IsStamped, StampedState}
 use Rattle.shared_list.proofs.CallerLemmas.{length-with_item}
 use Rattle.shared_list.specs.Traces.{list_of, with_item}
-use Rattle.event_book.proofs.Blocks.{two_found, went_is}
+use Rattle.event_book.proofs.Blocks.{two_found}
 use Rattle.event_book.proofs.Going.{communications_with, full_few, most_first, most_second, number_first, number_second, on_first, on_second, stamped_two}
 use Rattle.event_book.proofs.stamped.Stamped.deliver_two.Goals as goal
 
@@ -31,6 +31,10 @@ merge_clusters-requires-clause-planned c =
     let found = two_found s.types s.journal c.args.first c.args.second next in
     let merges = subst (λ (v : StampedState). (a b : Event) → event_of (came_by v.journal) c.args.first ≡ Some a → event_of (came_by v.journal) c.args.second ≡ Some b → IsMergeOf v.levels (together a b) (Some c.args.merge)) (sym c.self.view_is) c.requires.merge found.0 found.1 found.2 found.3 in
     merges.planned
+
+pub deliver_block-requires : goal.deliver_block-requires
+deliver_block-requires c =
+    subst (λ (v : StampedState). IsNext v.types (reverse v.journal) (Two c.args.first c.args.second)) (sym c.self.view_is) c.requires.next
 
 pub overflow_add-self : goal.overflow_add-self
 overflow_add-self c =
@@ -100,10 +104,8 @@ invariant_of-self c =
     let found = two_found s.types s.journal c.args.first c.args.second next in
     let merges = subst (λ (v : StampedState). (a b : Event) → event_of (came_by v.journal) c.args.first ≡ Some a → event_of (came_by v.journal) c.args.second ≡ Some b → IsMergeOf v.levels (together a b) (Some c.args.merge)) (sym c.self.view_is) c.requires.merge found.0 found.1 found.2 found.3 in
     let its = subst (λ (v : StampedState). (a b : Event) → event_of (came_by v.journal) c.args.first ≡ Some a → event_of (came_by v.journal) c.args.second ≡ Some b → IsStamp v.types (clustering_of v.levels) (together a b ∷ deliveries_by v.journal) a c.args.first_stamp × IsStamp v.types (clustering_of v.levels) (together a b ∷ deliveries_by v.journal) b c.args.second_stamp) (sym c.self.view_is) c.requires.stamps found.0 found.1 found.2 found.3 in
-    let went = went_is s.types s.journal c.self.invariant.legal (Two c.args.first c.args.second) next c.deliver.result (c.next_is_one.ensures.journal s.types s.journal c.self.invariant.legal) c.deliver.ensures.some c.deliver.ensures.none in
     let gone : TypedJournal = record { types = old.types; journal = old.journal ++ Pair c.args.first c.args.second ∷ [] } in
-    let is : c.deliver.new.self ≡ gone =
-    c.deliver.ensures.delivered ∙ ap (λ (r : Option Block). let d : TypedJournal = record { types = old.types; journal = old.journal ++ option_to_list (option_map entry_of r) } in d) went in
+    let is : c.deliver_block.new.self ≡ gone = c.deliver_block.ensures in
     let counted : (stamp : ClusterTimestamp) → count_by (λ (x : ClusterTimestamp). x.level == levels_of (clustering_of c.merge_clusters.new.levels) + 1) (stamp ∷ []) ≡ count_by (λ (x : ClusterTimestamp). x.level == levels_of (clustering_of s.levels) + 1) (stamp ∷ []) =
     λ stamp. ap (λ (cl : Clustering). count_by (λ (x : ClusterTimestamp). x.level == levels_of cl + 1) (stamp ∷ [])) c.merge_clusters.ensures.made_with in
     let one = c.full_of.ensures ∙ counted c.args.first_stamp in
@@ -120,9 +122,5 @@ invariant_of-self c =
 
 pub returns-clause-journal : goal.returns-clause-journal
 returns-clause-journal c =
-    let old = c.self.inside.delivery in
-    let next = subst (λ (v : StampedState). IsNext v.types (reverse v.journal) (Two c.args.first c.args.second)) (sym c.self.view_is) c.requires.next in
-    let went = went_is old.types old.journal c.self.invariant.legal (Two c.args.first c.args.second) next c.deliver.result (c.next_is_one.ensures.journal old.types old.journal c.self.invariant.legal) c.deliver.ensures.some c.deliver.ensures.none in
-    ap (λ (d : TypedJournal). d.journal) c.deliver.ensures.delivered
-    ∙ (ap (λ (r : Option Block). old.journal ++ option_to_list (option_map entry_of r)) went
-    ∙ ap (λ (v : StampedState). v.journal ++ Pair c.args.first c.args.second ∷ []) c.self.view_is)
+    ap (λ (d : TypedJournal). d.journal) c.deliver_block.ensures
+    ∙ ap (λ (v : StampedState). v.journal ++ Pair c.args.first c.args.second ∷ []) c.self.view_is

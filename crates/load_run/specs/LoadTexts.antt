@@ -16,9 +16,13 @@ share events collector = filter (λ e. e.id.trace % COLLECTORS == collector) eve
 abbrev pub shares : List Event → List (List Event)
 shares events = share events 0 ∷ share events 1 ∷ share events 2 ∷ []
 
+-- the line of an event, with its end
+abbrev pub line_of : TypeTable → Event → List ℕ
+line_of types e = spelling types e ++ 10 ∷ []
+
 -- a line for each event
 abbrev pub lines_of : TypeTable → List Event → List ℕ
-lines_of types events = flat_map (λ e. spelling types e ++ 10 ∷ []) events
+lines_of types events = flat_map (line_of types) events
 
 -- what is told of a source in memory whose reads never fail, of which these bytes are left
 abbrev pub never_failing : List ℕ → SourceState

@@ -6,6 +6,7 @@
 pub use loaded::Loaded;
 pub use loading::load;
 
+mod event_line;
 mod limits;
 mod loaded;
 mod loading;

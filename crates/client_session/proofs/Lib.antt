@@ -1,5 +1,6 @@
 pub mod Exits
 pub mod WordLemmas
+pub mod Forms
 pub mod FormLemmas
 pub mod ScriptLemmas
 pub mod Replying

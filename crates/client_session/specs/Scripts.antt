@@ -3,6 +3,7 @@ use Rattle.std.specs.Prelude.{◌≡◌, ◌≢◌, ◌<◌, ◌≤◌, ◌+◌,
 use Rattle.std.specs.List.{AllByRecursion, flat_map}
 use Rattle.causal_base.specs.Fields.{IsNoId, NamesNoTrace, NamesNoNumber}
 use Rattle.causal_base.specs.Refusals.{Refusals, refuses, IsFirst, ArePassed}
+use Rattle.causal_base.specs.Spelling.{IsNumber}
 use Rattle.causal_base.specs.Types.{TypeTable}
 use Rattle.client_session.specs.declared.command.Command.{Command}
 use Rattle.client_session.specs.declared.limits.TheConstants.{MOST_COMMANDS, MOST_LINE, MOST_SCRIPT}
@@ -33,10 +34,51 @@ pub record AreWords (line first : List ℕ) (others : List (List ℕ)) : Type 0 
   pub one_word : IsOneWord first
   pub one_word_each : AllByRecursion IsOneWord others
 
--- the first word of each command, and how many ids stand behind it
-abbrev pub forms : List (List ℕ × ℕ)
-forms = (codes "before", 2) ∷ (codes "relation", 2) ∷ (codes "event", 1) ∷ (codes "stamp", 1)
-    ∷ (codes "count", 0) ∷ (codes "await", 1) ∷ []
+-- what stands behind the words of a command's own: an id, or a trace
+pub data Argument : Type 0 where
+  AnId : Argument
+  ATrace : Argument
+
+-- How a command is written: its first word, its second word if it has one of its own, and what
+-- stands behind them.
+pub record Form : Type 0 where
+  pub first : List ℕ
+  pub second : List (List ℕ)
+  pub arguments : List Argument
+
+-- a form with one word of its own, or with two
+abbrev pub one_word : List ℕ → List Argument → Form
+one_word first arguments = record { first = first; second = []; arguments = arguments }
+
+abbrev pub two_words : List ℕ → List ℕ → List Argument → Form
+two_words first second arguments =
+    record { first = first; second = second ∷ []; arguments = arguments }
+
+-- how each command is written
+abbrev pub forms : List Form
+forms = one_word (codes "before") (AnId ∷ AnId ∷ [])
+    ∷ one_word (codes "relation") (AnId ∷ AnId ∷ [])
+    ∷ one_word (codes "event") (AnId ∷ [])
+    ∷ one_word (codes "stamp") (AnId ∷ [])
+    ∷ one_word (codes "gp") (AnId ∷ ATrace ∷ [])
+    ∷ one_word (codes "ls") (AnId ∷ ATrace ∷ [])
+    ∷ two_words (codes "cut") (codes "none") []
+    ∷ two_words (codes "cut") (codes "all") []
+    ∷ two_words (codes "cut") (codes "to") (AnId ∷ [])
+    ∷ two_words (codes "cut") (codes "back") (AnId ∷ [])
+    ∷ two_words (codes "cut") (codes "has") (AnId ∷ [])
+    ∷ one_word (codes "count") []
+    ∷ one_word (codes "await") (AnId ∷ [])
+    ∷ []
+
+-- A line with this first word and these others is written in a form: they are its own words, and a
+-- word for each of its arguments, which isn't empty.
+pub record IsWritten (form : Form) (first : List ℕ) (others arguments : List (List ℕ))
+    : Type 0 where
+  pub first_is : first ≡ form.first
+  pub others_are : others ≡ form.second ++ arguments
+  pub as_many : length arguments ≡ length form.arguments
+  pub some_each : AllByRecursion (λ word. word ≢ []) arguments
 
 -- what may be wrong with an id
 abbrev pub id_faults : ℕ → List ℕ → Refusals ScriptCause
@@ -45,25 +87,41 @@ id_faults traces word = refuses (IsNoId word) BadId
     ∷ refuses (NamesNoNumber word traces) BadNumber
     ∷ []
 
--- what may be wrong with ids, from the left
-abbrev pub ids_faults : ℕ → List (List ℕ) → Refusals ScriptCause
-ids_faults traces [] = []
-ids_faults traces (word ∷ words) = id_faults traces word ++ ids_faults traces words
+-- what may be wrong with a trace
+abbrev pub trace_faults : ℕ → List ℕ → Refusals ScriptCause
+trace_faults traces word = refuses ((n : ℕ) → IsNumber word n → ⊥) BadId
+    ∷ refuses ((n : ℕ) × IsNumber word n × (traces ≤ n)) NoTrace
+    ∷ []
 
--- what may be wrong with a command that has this first word and so many ids, for the words behind
--- the first
-abbrev pub form_faults : ℕ → Bool → List ℕ → ℕ → List (List ℕ) → Refusals ScriptCause
-form_faults traces closing first count others =
-    refuses ((length others ≢ count) ⊎ Contains others []) Shape
-    ∷ refuses ((closing ≡ true) × (first ≡ codes "stamp")) NotInClosing
-    ∷ ids_faults traces others
+-- what may be wrong with an argument
+abbrev pub argument_faults : ℕ → Argument → List ℕ → Refusals ScriptCause
+argument_faults traces AnId word = id_faults traces word
+argument_faults traces ATrace word = trace_faults traces word
 
--- what is wrong with the words of a line
+-- what may be wrong with arguments, from the left
+abbrev pub arguments_faults : ℕ → List Argument → List (List ℕ) → Refusals ScriptCause
+arguments_faults traces [] words = []
+arguments_faults traces (argument ∷ arguments) [] = []
+arguments_faults traces (argument ∷ arguments) (word ∷ words) =
+    argument_faults traces argument word ++ arguments_faults traces arguments words
+
+-- what may be wrong with a command that is written in this form, for the words of its arguments
+abbrev pub form_faults : ℕ → Bool → Form → List (List ℕ) → Refusals ScriptCause
+form_faults traces closing form words =
+    refuses ((closing ≡ true) × (form.first ≡ codes "stamp")) NotInClosing
+    ∷ arguments_faults traces form.arguments words
+
+-- what is wrong with the words of a line: no command has its first word, or it is written in none
+-- of the forms that have it, or something is wrong with it in the form in which it is written
 abbrev pub IsWordsCause : ℕ → Bool → List ℕ → List (List ℕ) → ScriptCause → Type 0
 IsWordsCause traces closing first others cause =
-    (((count : ℕ) → Contains forms (first, count) → ⊥) × (cause ≡ NoCommand))
-    ⊎ ((count : ℕ) × Contains forms (first, count)
-    × IsFirst (form_faults traces closing first count others) cause)
+    (((form : Form) → Contains forms form → first ≢ form.first) × (cause ≡ NoCommand))
+    ⊎ (((form : Form) × Contains forms form × (first ≡ form.first))
+    × ((form : Form) (arguments : List (List ℕ)) → Contains forms form
+    → IsWritten form first others arguments → ⊥) × (cause ≡ Shape))
+    ⊎ ((form : Form) × (arguments : List (List ℕ)) × Contains forms form
+    × IsWritten form first others arguments
+    × IsFirst (form_faults traces closing form arguments) cause)
 
 -- what may be wrong with a line with this number, whatever its words are
 abbrev pub line_faults : ℕ → List ℕ → Refusals ScriptCause

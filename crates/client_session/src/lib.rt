@@ -14,12 +14,15 @@ pub use script::Script;
 pub use script_error::{ScriptCause, ScriptError};
 pub use session::Session;
 
+mod arguments;
 mod command;
 mod command_text;
-mod form;
+mod cuts;
 mod limits;
 mod line;
 mod lines;
+mod neighbours;
+mod own_words;
 mod replies;
 mod script;
 mod script_error;

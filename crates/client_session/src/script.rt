@@ -34,8 +34,8 @@ impl Script {
     /// stamps.
     ///
     /// The first line with a fault is refused, with the first cause that applies to it, in the
-    /// order of [`ScriptCause`]; of the ids of a line the first counts that has a fault. `TooLong`
-    /// comes before all others. `Oom` comes where memory runs out.
+    /// order of [`ScriptCause`]; of the ids and traces of a line the first counts that has a fault.
+    /// `TooLong` comes before all others. `Oom` comes where memory runs out.
     pub fn read(
         alloc: Global,
         bytes: &[u8],

@@ -13,13 +13,15 @@ pub enum ScriptCause {
     TooManyLines,
     /// The bytes up to the first space, or all of them, aren't the first word of a command.
     NoCommand,
-    /// There are more words or fewer than the command has, or an empty one.
+    /// There are more words or fewer than the command has, or an empty one; or the word behind
+    /// `cut` is none of `none`, `all`, `to`, `back` and `has`.
     Shape,
     /// It asks for a stamp, in a closing script.
     NotInClosing,
-    /// A word isn't two numbers with a full stop between them.
+    /// A word isn't two numbers with a full stop between them where an id is to stand, or isn't a
+    /// number where a trace is to stand.
     BadId,
-    /// An id is of a trace that there isn't.
+    /// A word is the number of a trace that there isn't, or an id of one.
     NoTrace,
     /// An id's number isn't from 1 to 1,000,000.
     BadNumber,

@@ -51,12 +51,13 @@ fn script_of(alloc: Global, lines: usize, bytes: usize, ends: bool) -> Result<Ve
 /// A line with a fault, whether its script is a closing one, and the first of its causes.
 type FaultyLine = (&'static str, bool, ScriptCause);
 
-const LINES: [FaultyLine; 43] = [
+const LINES: [FaultyLine; 57] = [
     ("", false, ScriptCause::NoCommand),
     (" ", false, ScriptCause::NoCommand),
     (" count", false, ScriptCause::NoCommand),
     ("Count", false, ScriptCause::NoCommand),
     ("counts", false, ScriptCause::NoCommand),
+    ("cuts none", false, ScriptCause::NoCommand),
     ("count\r", false, ScriptCause::NoCommand),
     ("before\t0.1 1.1", false, ScriptCause::NoCommand),
     ("\u{e9}", false, ScriptCause::NoCommand),
@@ -74,19 +75,30 @@ const LINES: [FaultyLine; 43] = [
     ("before  0.1 1.1", false, ScriptCause::Shape),
     ("before 0.1 1.1 ", false, ScriptCause::Shape),
     ("relation 0.1 1.1 2.1", false, ScriptCause::Shape),
+    ("gp 0.1", false, ScriptCause::Shape),
+    ("gp  0.1 0", false, ScriptCause::Shape),
+    ("cut", false, ScriptCause::Shape),
+    ("cut  all", false, ScriptCause::Shape),
+    ("cut none 0.1", false, ScriptCause::Shape),
+    ("cut to", false, ScriptCause::Shape),
+    ("cut up 0.1", false, ScriptCause::Shape),
     ("stamp 0.1", true, ScriptCause::NotInClosing),
     ("event x", false, ScriptCause::BadId),
     ("await 0", false, ScriptCause::BadId),
     ("stamp 0.01", false, ScriptCause::BadId),
     ("before x 0.1", false, ScriptCause::BadId),
     ("relation 0.1 0.1.1", false, ScriptCause::BadId),
+    ("gp 0.1 x", false, ScriptCause::BadId),
+    ("gp 0.1 01", false, ScriptCause::BadId),
     ("event 3.1", false, ScriptCause::NoTrace),
     ("before 3.1 0.1", false, ScriptCause::NoTrace),
     ("relation 2.1 3.1", false, ScriptCause::NoTrace),
+    ("gp 0.1 9", false, ScriptCause::NoTrace),
+    ("ls 0.1 3", false, ScriptCause::NoTrace),
     ("event 0.0", false, ScriptCause::BadNumber),
     ("await 2.1000001", false, ScriptCause::BadNumber),
     ("relation 0.1 1.0", false, ScriptCause::BadNumber),
-    // Two causes in one line: the first in the order counts, and of two ids the first.
+    // Two causes in one line: the first in the order counts, and of two arguments the first.
     ("counts x", false, ScriptCause::NoCommand),
     ("before x", false, ScriptCause::Shape),
     ("stamp", true, ScriptCause::Shape),
@@ -96,6 +108,8 @@ const LINES: [FaultyLine; 43] = [
     ("before x 3.1", false, ScriptCause::BadId),
     ("relation 0.0 3.1", false, ScriptCause::BadNumber),
     ("relation 3.1 0.0", false, ScriptCause::NoTrace),
+    ("gp x 9", false, ScriptCause::BadId),
+    ("gp 9.1 x", false, ScriptCause::NoTrace),
 ];
 
 /// Whether the line is refused as the one behind so many good lines, whatever stands behind it.
@@ -212,11 +226,18 @@ const LAST: EventId = EventId {
     number: 1_000_000,
 };
 
-const ROWS: [Row; 6] = [
+const ROWS: [Row; 13] = [
     (Command::Before(FIRST, LAST), "before 0.1 2.1000000\n"),
     (Command::Relation(LAST, FIRST), "relation 2.1000000 0.1\n"),
     (Command::Event(FIRST), "event 0.1\n"),
     (Command::Stamp(LAST), "stamp 2.1000000\n"),
+    (Command::GreatestBefore(LAST, 0), "gp 2.1000000 0\n"),
+    (Command::LeastAfter(FIRST, 2), "ls 0.1 2\n"),
+    (Command::CutNone, "cut none\n"),
+    (Command::CutAll, "cut all\n"),
+    (Command::CutTo(FIRST), "cut to 0.1\n"),
+    (Command::CutBack(FIRST), "cut back 0.1\n"),
+    (Command::CutHas(FIRST), "cut has 0.1\n"),
     (Command::Count, "count\n"),
     (Command::Await(FIRST), "await 0.1\n"),
 ];

@@ -55,7 +55,7 @@ pub fn two_words(others: Option<&[u8]>) -> Result<(&[u8], &[u8]), ScriptCause>
 
 /// The next word, which isn't empty, and those behind it. `Shape` where there is none, or where it
 /// is empty.
-fn next_word(others: Option<&[u8]>) -> Result<(&[u8], Option<&[u8]>), ScriptCause>
+pub fn next_word(others: Option<&[u8]>) -> Result<(&[u8], Option<&[u8]>), ScriptCause>
     ensures ok { IfOk result (λ next. IsNextWord (behind (option_copied others.entry)) next.0.now
         (behind (option_copied next.1))) }
     ensures err { IfErr result (λ cause. (cause ≡ ScriptCause.Shape)

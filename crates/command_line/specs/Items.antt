@@ -50,7 +50,8 @@ pub record IsItem (word : List ℕ) (item : Item) : Type 0 where
 
 -- The files are these: of events and of scripts of clients at most 16 each, and at most one closing
 -- script.
-pub record AreFiles (items : List Item) (events clients : List (List ℕ)) (closing : Option (List ℕ)) : Type 0 where
+pub record AreFiles (items : List Item) (events clients : List (List ℕ))
+    (closing : Option (List ℕ)) : Type 0 where
   pub events_are : events ≡ events_of items
   pub most_events : length events ≤ MOST_NAMES
   pub clients_are : clients ≡ clients_of items
@@ -64,7 +65,8 @@ IsFullFor items item =
     → AreFiles (items ++ item ∷ more) events clients closing → ⊥
 
 -- The words name these files, each by a name that isn't empty.
-pub record NameFiles (words events clients : List (List ℕ)) (closing : Option (List ℕ)) : Type 0 where
+pub record NameFiles (words events clients : List (List ℕ)) (closing : Option (List ℕ))
+    : Type 0 where
   pub items : List Item
   pub spelled : words ≡ map item_text items
   pub named : All (λ item. item_name item ≢ []) items

@@ -17,8 +17,8 @@ pub record ReplayAsked : Type 0 where
   pub clients : List (List ℕ)
   pub closing : Option (List ℕ)
 
--- what words ask for: whether one event of a file happened before another, a replay, or a load of so
--- many events
+-- what words ask for: whether one event of a file happened before another, a replay, or a load of
+-- so many events
 pub data Asked : Type 0 where
   Ask : (name : List ℕ) (a b : EventId) → Asked
   Replay : (asked : ReplayAsked) → Asked

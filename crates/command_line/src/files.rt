@@ -50,7 +50,8 @@ impl<'a> Files<'a> {
             (option_map (λ name. name.now) self.new.closing)) }
         ensures full { OnFalse result ((items : List Item)
             → AreFiles items self.old.events self.old.clients
-            (option_map (λ name. name.now) self.old.closing) → IsFullFor items (item_of item.entry)) }
+            (option_map (λ name. name.now) self.old.closing)
+            → IsFullFor items (item_of item.entry)) }
     {
         match item {
             ItemRef::Events(name) => self.events.push(name),

@@ -55,10 +55,10 @@ pub struct ReplayPlan<'a> {
 /// The plan that the words are, which are those after the program's name, or none. It takes no
 /// memory.
 ///
-/// The words are `ask EVENTS A B`, with two ids, `replay [--levels LIST] [--after W] TARGET ITEM ..`,
-/// or `load N`, with a number up to 400,000. LIST is the sizes of the levels with commas between them, and 8 and 32 where it isn't there;
-/// W is 1 where it isn't there. An ITEM is `e:NAME` for the events of a collector, `c:NAME` for the
-/// script of a client, or `z:NAME` for the closing script.
+/// The words are `ask EVENTS A B`, with two ids, `replay [--levels LIST] [--after W] TARGET ITEM
+/// ..`, or `load N`, with a number up to 400,000. LIST is the sizes of the levels with commas between
+/// them, and 8 and 32 where it isn't there; W is 1 where it isn't there. An ITEM is `e:NAME` for the
+/// events of a collector, `c:NAME` for the script of a client, or `z:NAME` for the closing script.
 pub fn plan_of(words: &[String]) -> Option<Plan<'_>>
     ensures some { IfSome result (λ plan. IsPlan (map string_bytes words.now) (asked_by plan)) }
     ensures none { IfNone result ((asked : Asked) → IsPlan (map string_bytes words.now) asked

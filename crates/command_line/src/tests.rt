@@ -1,5 +1,5 @@
-//! Tests of what no clause says: each public function once, over words that are plans and words that
-//! are none, as worked out by hand.
+//! Tests of what no clause says: each public function once, over words that are plans and words
+//! that are none, as worked out by hand.
 
 use crate::{Names, Plan, ReplayPlan, plan_of};
 use causal_base::EventId;

@@ -1,4 +1,4 @@
-ghost use Rattle.std.specs.Prelude.{◌≡◌, ◌↔◌, ◌<◌, ◌∷◌, [], ℕ, List, length, max, slice_index, All, Contains, IsTrue, IfOk};
+ghost use Rattle.std.specs.Prelude.{◌≡◌, ◌+◌, ◌*◌, ◌↔◌, ◌<◌, ◌≤◌, ◌∷◌, [], ℕ, List, length, max, slice_index, All, Contains, IsTrue, IfOk};
 ghost use Rattle.causal_base.specs.declared.answer.Answer.TheVariants.{NotYet};
 ghost use Rattle.causal_base.specs.declared.entry.Entry.{Entry};
 ghost use Rattle.causal_base.specs.declared.event.Event.{Event};
@@ -75,6 +75,7 @@ impl Cut {
             (λ x. IsLeastWith (C.types book.now) (delivered_by journal) self.old x self.new))
             result }
         ensures stays { (id : EventId) → result ≡ NotYet id → self.new ≡ self.old }
+        ensures steps { steps.new ≤ steps.old + C.bound book.now }
     {
         // That there is a journal shows that the traces are few.
         let _traces = book.traces();
@@ -102,6 +103,8 @@ impl Cut {
             (λ x. IsGreatestWithout (C.types book.now) (delivered_by journal) self.old x self.new))
             result }
         ensures stays { (id : EventId) → result ≡ NotYet id → self.new ≡ self.old }
+        ensures steps { steps.new
+            ≤ steps.old + 20 * (C.types book.now).traces * C.bound book.now }
     {
         let Some(_) = book.event(e) else {
             return Answer::NotYet(e);
@@ -160,11 +163,12 @@ fn lower<C: Causal, L: Ledger>(counts: &mut [u32], book: &C, e: EventId, steps: 
         → HasEvent (delivered_by journal) e }
     requires cut { (journal : List Entry) → C.stands_for book.now journal
         → IsCut (C.types book.now) (delivered_by journal) counts.old }
-    ensures { (journal : List Entry) → C.stands_for book.now journal → (x : Event)
+    ensures lowered { (journal : List Entry) → C.stands_for book.now journal → (x : Event)
         → Contains (delivered_by journal) x → x.id ≡ e
         → (trace : ℕ) → trace < (C.types book.now).traces
         → IsUnreached (C.types book.now) (delivered_by journal) x trace
         (slice_index counts.old trace) (slice_index counts.new trace) }
+    ensures steps { steps.new ≤ steps.old + 20 * (C.types book.now).traces * C.bound book.now }
 {
     for trace in 0..book.traces() {
         let count = counts[trace as usize];

@@ -1,40 +1,26 @@
 -- What is wrong with a line is one cause.
-use Rattle.std.proofs.Common.{◌≡◌, ℕ, inl, inr, Bool, cond, List, [], ◌∷◌, refl, sym, subst, ◌∙◌, arith}
-use Rattle.std.specs.Prelude.{Contains, ◌==◌}
-use Rattle.std.proofs.lemmas.List.Elements.{All-contains, All-from_recursion}
+use Rattle.std.proofs.Common.{◌≡◌, ℕ, inl, inr, Bool, List, [], ◌∷◌, sym, subst, ◌∙◌, arith}
 use Rattle.causal_base.specs.Refusals.{IsFirst}
 use Rattle.causal_base.proofs.CallerLemmas.{has_none, passed_first, split_in_one_way}
 use Rattle.client_session.specs.declared.script_error.ScriptCause.{ScriptCause}
-use Rattle.client_session.specs.Scripts.{IsLineCause, IsRestCause, IsWordsCause, form_faults, forms, ids_faults, line_faults}
-use Rattle.file_laws.proofs.FirstOnce.{HaveOneError, first_once}
+use Rattle.client_session.specs.Scripts.{Argument, AnId, ATrace, Form, IsLineCause, IsRestCause, IsWordsCause, argument_faults, arguments_faults, form_faults, line_faults}
+use Rattle.file_laws.proofs.FirstOnce.{HaveOneError, first_once, one_of_both}
+use Rattle.file_laws.proofs.FormsOnce.{form_once}
 use Rattle.file_laws.proofs.WordsOnce.{words_once}
 
--- the first byte of a word, by which the forms differ
-abbrev pub first_byte : List ℕ → ℕ
-first_byte [] = 0
-first_byte (byte ∷ bytes) = byte
+-- each fault of an argument has one cause, and so has each of a form, and of a line
+argument_causes : (traces : ℕ) (argument : Argument) (word : List ℕ) → HaveOneError (argument_faults traces argument word)
+argument_causes traces AnId word = ((λ cause other one two. one.1 ∙ sym two.1), ((λ cause other one two. one.1 ∙ sym two.1), ((λ cause other one two. one.1 ∙ sym two.1), tt)))
+argument_causes traces ATrace word = ((λ cause other one two. one.1 ∙ sym two.1), ((λ cause other one two. one.1 ∙ sym two.1), tt))
 
--- how many ids stand behind the word of a form with this first byte
-abbrev ids_behind : ℕ → ℕ
-ids_behind byte = cond (byte == 99) 0 (cond (byte == 98) 2 (cond (byte == 114) 2 1))
+arguments_causes : (traces : ℕ) (arguments : List Argument) (words : List (List ℕ)) → HaveOneError (arguments_faults traces arguments words)
+arguments_causes traces [] words = tt
+arguments_causes traces (argument ∷ arguments) [] = tt
+arguments_causes traces (argument ∷ arguments) (word ∷ words) =
+    one_of_both (argument_faults traces argument word) (arguments_faults traces arguments words) (argument_causes traces argument word) (arguments_causes traces arguments words)
 
--- so a form has its number of ids
-told : (word : List ℕ) (count : ℕ) → Contains forms (word, count) → count ≡ ids_behind (first_byte word)
-told word count has =
-    All-contains (λ (row : List ℕ × ℕ). row.1 ≡ ids_behind (first_byte row.0)) forms (word, count)
-    (All-from_recursion (λ (row : List ℕ × ℕ). row.1 ≡ ids_behind (first_byte row.0)) forms (refl, (refl, (refl, (refl, (refl, (refl, tt)))))))
-    has
-
-pub form_once : (word : List ℕ) (count other : ℕ) → Contains forms (word, count) → Contains forms (word, other) → count ≡ other
-form_once word count other has also = told word count has ∙ sym (told word other also)
-
--- each fault of ids has one cause, and so has each of a form, and of a line
-ids_causes : (traces : ℕ) (words : List (List ℕ)) → HaveOneError (ids_faults traces words)
-ids_causes traces [] = tt
-ids_causes traces (word ∷ words) = ((λ cause other one two. one.1 ∙ sym two.1), ((λ cause other one two. one.1 ∙ sym two.1), ((λ cause other one two. one.1 ∙ sym two.1), ids_causes traces words)))
-
-form_causes : (traces : ℕ) (closing : Bool) (first : List ℕ) (count : ℕ) (others : List (List ℕ)) → HaveOneError (form_faults traces closing first count others)
-form_causes traces closing first count others = ((λ cause other one two. one.1 ∙ sym two.1), ((λ cause other one two. one.1 ∙ sym two.1), ids_causes traces others))
+form_causes : (traces : ℕ) (closing : Bool) (form : Form) (words : List (List ℕ)) → HaveOneError (form_faults traces closing form words)
+form_causes traces closing form words = ((λ cause other one two. one.1 ∙ sym two.1), arguments_causes traces form.arguments words)
 
 line_causes : (number : ℕ) (line : List ℕ) → HaveOneError (line_faults number line)
 line_causes number line = ((λ cause other one two. one.1 ∙ sym two.1), ((λ cause other one two. one.1 ∙ sym two.1), tt))
@@ -42,11 +28,23 @@ line_causes number line = ((λ cause other one two. one.1 ∙ sym two.1), ((λ c
 -- what is wrong with words
 words_cause_once : (traces : ℕ) (closing : Bool) (first : List ℕ) (words : List (List ℕ)) (cause other : ScriptCause) → IsWordsCause traces closing first words cause → IsWordsCause traces closing first words other → cause ≡ other
 words_cause_once traces closing first words cause other one two = elim one [
-  | inl none ↦ elim two [ inl also ↦ none.1 ∙ sym also.1 | inr form ↦ absurd (none.0 form.0 form.1) ]
-  | inr form ↦ elim two [
-    | inl none ↦ absurd (none.0 form.0 form.1)
-    | inr also ↦ first_once (form_faults traces closing first form.0 words) cause other (form_causes traces closing first form.0 words) form.2
-        (subst (λ count. IsFirst (form_faults traces closing first count words) other) (form_once first also.0 form.0 also.1 form.1) also.2)
+  | inl none ↦ elim two [
+    | inl also ↦ none.1 ∙ sym also.1
+    | inr (inl shape) ↦ absurd (none.0 shape.0.0 shape.0.1 shape.0.2)
+    | inr (inr form) ↦ absurd (none.0 form.0 form.2 form.3.first_is)
+  ]
+  | inr (inl shape) ↦ elim two [
+    | inl none ↦ absurd (none.0 shape.0.0 shape.0.1 shape.0.2)
+    | inr (inl also) ↦ shape.2 ∙ sym also.2
+    | inr (inr form) ↦ absurd (shape.1 form.0 form.1 form.2 form.3)
+  ]
+  | inr (inr form) ↦ elim two [
+    | inl none ↦ absurd (none.0 form.0 form.2 form.3.first_is)
+    | inr (inl shape) ↦ absurd (shape.1 form.0 form.1 form.2 form.3)
+    | inr (inr also) ↦
+        let same = form_once first words also.0 form.0 also.1 form.1 also.2 form.2 also.3 form.3 in
+        first_once (form_faults traces closing form.0 form.1) cause other (form_causes traces closing form.0 form.1) form.4
+        (subst (λ it. IsFirst (form_faults traces closing it form.1) other) same.0 (subst (λ arguments. IsFirst (form_faults traces closing also.0 arguments) other) same.1 also.4))
   ]
 ]
 

@@ -1,6 +1,8 @@
 pub mod FirstOnce
 pub mod WordsOnce
+pub mod FormsOnce
 pub mod CausesOnce
+pub mod CommandWords
 pub mod CommandLines
 pub mod ScriptsOnce
 pub mod DocumentsOnce

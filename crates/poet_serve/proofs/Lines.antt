@@ -1,6 +1,6 @@
 -- The lines of a client, one after another.
 use Rattle.std.proofs.Common.{◌≡◌, ◌≢◌, ◌+◌, ◌<◌, ◌≤◌, ℕ, suc, Bool, true, false, inl, inr, List, [], ◌∷◌, ◌++◌, length, take, refl, sym, ◌∙◌, ap, subst, arith}
-use Rattle.std.specs.Prelude.{All, slice_get, Some, None, Result, Ok, Err, OnOk}
+use Rattle.std.specs.Prelude.{slice_get, Option, Some, None, Result, Ok, Err, OnOk}
 use Rattle.std.specs.Result.{is_err}
 use Rattle.std.proofs.lemmas.List.{length-replicate, take_all}
 use Rattle.std.proofs.lemmas.Option.{slice_get-get_or}
@@ -11,9 +11,10 @@ use Rattle.answer_text.specs.declared.reply.Reply.TheVariants as reply
 use Rattle.causal_base.specs.declared.related.Related.{Related}
 use Rattle.causal_base.specs.declared.related.Related.TheVariants as related
 use Rattle.causal_base.specs.declared.entry.Entry.{Entry}
+use Rattle.causal_base.specs.declared.event_id.EventId.{EventId}
 use Rattle.client_session.specs.declared.command.Command.{Command}
-use Rattle.client_session.specs.declared.command.Command.TheVariants.{Before, Relation, Event, Stamp, Count, Await}
-use Rattle.client_session.specs.Replies.{Seen, HaveAllEnded, IsReply, IsSaid, word_of, yes_or_no}
+use Rattle.client_session.specs.declared.command.Command.TheVariants.{Before, Relation, Event, Stamp, GreatestBefore, LeastAfter, CutNone, CutAll, CutTo, CutBack, CutHas, Count, Await}
+use Rattle.client_session.specs.Replies.{Seen, HaveAllEnded, IsEmptyCut, IsReply, IsSaid, id_or_nothing, word_of, yes_or_no}
 use Rattle.poet_serve.specs.declared.report.Line.{Line}
 use Rattle.poet_serve.specs.declared.report.ClientReport.{ClientReport}
 use Rattle.poet_serve.specs.Transcripts.{AreTold, AreToldFrom}
@@ -31,12 +32,23 @@ not_yes_or_no : (happened : Bool) → yes_or_no happened ≡ reply.Later → ⊥
 not_yes_or_no true is = absurd cc
 not_yes_or_no false is = absurd cc
 
+not_an_id : (found : Option EventId) → id_or_nothing found ≡ reply.Later → ⊥
+not_an_id None is = absurd cc
+not_an_id (Some id) is = absurd cc
+
 -- where each collector has ended, no reply is 'later'
 said_now : (seen : Seen) (cut : List ℕ) (command : Command) (said : Reply) (after : List ℕ) → HaveAllEnded seen → IsSaid seen cut command said after → said ≡ reply.Later → ⊥
 said_now seen cut (Before a b) said after ended says is = not_yes_or_no says.0.0 (sym says.0.2 ∙ is)
 said_now seen cut (Relation a b) said after ended says is = not_word says.0.0 (sym says.0.2 ∙ is)
 said_now seen cut (Event a) said after ended says is = let other = sym says.0.3 ∙ is in absurd cc
 said_now seen cut (Stamp a) said after ended says is = let other = sym says.0.shows ∙ is in absurd cc
+said_now seen cut (GreatestBefore a trace) said after ended says is = not_an_id says.0.0 (sym says.0.2 ∙ is)
+said_now seen cut (LeastAfter a trace) said after ended says is = not_an_id says.0.0 (sym says.0.2 ∙ is)
+said_now seen cut CutNone said after ended says is = let other = sym says.1 ∙ is in absurd cc
+said_now seen cut CutAll said after ended says is = let other = sym says.1 ∙ is in absurd cc
+said_now seen cut (CutTo a) said after ended says is = let other = sym says.1 ∙ is in absurd cc
+said_now seen cut (CutBack a) said after ended says is = let other = sym says.1 ∙ is in absurd cc
+said_now seen cut (CutHas a) said after ended says is = not_yes_or_no says.0.0 (sym says.0.2 ∙ is)
 said_now seen cut Count said after ended says is = let other = sym says.0 ∙ is in absurd cc
 said_now seen cut (Await a) said after ended says is = elim says.0 [
   | inl here ↦ let other = sym here.1 ∙ is in absurd cc
@@ -89,12 +101,11 @@ pub command_there : (commands : List Command) (place : ℕ) → place < length c
 command_there commands place within none = let other = sym (slice_get-get_or commands place Count within) ∙ none in absurd cc
 
 -- no lines, from the empty cut
-pub no_lines : (seen : Seen) (commands : List Command) (traces : ℕ) (lines : List Line) → lines ≡ [] → (cut : List ℕ) × (last : List ℕ) × (length cut ≡ traces) × All (λ count. count ≡ 0) cut × LeadTo seen commands 0 (length seen.journal) cut lines last
+pub no_lines : (seen : Seen) (commands : List Command) (traces : ℕ) (lines : List Line) → lines ≡ [] → (cut : List ℕ) × (last : List ℕ) × IsEmptyCut traces cut × LeadTo seen commands 0 (length seen.journal) cut lines last
 no_lines seen commands traces lines none = (
   replicate traces 0,
   replicate traces 0,
-  length-replicate traces 0,
-  All-replicate (λ count. count ≡ 0) traces 0 refl,
+  record { as_many = length-replicate traces 0; none = All-replicate (λ count. count ≡ 0) traces 0 refl },
   subst (λ ls. LeadTo seen commands 0 (length seen.journal) (replicate traces 0) ls (replicate traces 0)) (sym none) refl,
 )
 
@@ -104,11 +115,10 @@ where_ok (Ok value) failed is holds none = holds
 where_ok (Err error) failed is holds none = let other = sym is ∙ none in absurd cc
 
 -- what was told, in lines that lead from the empty cut
-pub told_lines : (seen : Seen) (commands : List Command) (lines gathered : List Line) (memory : Bool) → lines ≡ gathered → (cut last : List ℕ) → length cut ≡ seen.types.traces → All (λ count. count ≡ 0) cut → LeadTo seen commands 0 (length seen.journal) cut gathered last
+pub told_lines : (seen : Seen) (commands : List Command) (lines gathered : List Line) (memory : Bool) → lines ≡ gathered → (cut last : List ℕ) → IsEmptyCut seen.types.traces cut → LeadTo seen commands 0 (length seen.journal) cut gathered last
     → (memory ≡ false → length gathered ≡ length commands) → IsTold seen commands (length seen.journal) lines memory
-told_lines seen commands lines gathered memory same cut last as_many empty leads all = record {
+told_lines seen commands lines gathered memory same cut last empty leads all = record {
   cut = cut;
-  as_many = as_many;
   empty = empty;
   lines_are = subst (λ (ls : List Line). AreLinesFrom seen commands 0 (length seen.journal) cut ls) (sym same) (lines_from seen commands 0 (length seen.journal) cut gathered last leads);
   all = λ none. ap (λ (ls : List Line). length ls) same ∙ all none;
@@ -116,12 +126,11 @@ told_lines seen commands lines gathered memory same cut last as_many empty leads
 
 -- and so no fewer than none
 pub told_from_none : (seen : Seen) (commands : List Command) (least : ℕ) (lines : List Line) (memory : Bool) → IsTold seen commands least lines memory → IsTold seen commands 0 lines memory
-told_from_none seen commands least [] memory told = record { cut = told.cut; as_many = told.as_many; empty = told.empty; lines_are = tt; all = told.all }
+told_from_none seen commands least [] memory told = record { cut = told.cut; empty = told.empty; lines_are = tt; all = told.all }
 told_from_none seen commands least (line ∷ lines) memory told =
     let first = told.lines_are.1 in
     record {
       cut = told.cut;
-      as_many = told.as_many;
       empty = told.empty;
       lines_are = (told.lines_are.0, record { place_is = first.place_is; no_fewer = omega arith; within = first.within; command = first.command; command_is = first.command_is; reply = first.reply; told = first.told }, told.lines_are.2);
       all = told.all;

@@ -1,8 +1,8 @@
 -- What a client is told, line by line.
-use Rattle.std.specs.Prelude.{◌≡◌, ◌≢◌, ◌≤◌, ℕ, Bool, false, List, [], ◌∷◌, length, take, Some, slice_get, All, suc}
+use Rattle.std.specs.Prelude.{◌≡◌, ◌≢◌, ◌≤◌, ℕ, Bool, false, List, [], ◌∷◌, length, take, Some, slice_get, suc}
 use Rattle.answer_text.specs.declared.reply.Reply.TheVariants.{Later}
 use Rattle.client_session.specs.declared.command.Command.{Command}
-use Rattle.client_session.specs.Replies.{Seen, IsReply, seen_of}
+use Rattle.client_session.specs.Replies.{Seen, IsEmptyCut, IsReply, seen_of}
 use Rattle.poet_serve.specs.declared.report.Line.{Line}
 
 -- what was seen when a journal had so many entries
@@ -36,7 +36,6 @@ AreLinesFrom seen commands place least cut (line ∷ lines) = (after : List ℕ)
 pub record IsTold (seen : Seen) (commands : List Command) (least : ℕ) (lines : List Line)
     (memory : Bool) : Type 0 where
   pub cut : List ℕ
-  pub as_many : length cut ≡ seen.types.traces
-  pub empty : All (λ count. count ≡ 0) cut
+  pub empty : IsEmptyCut seen.types.traces cut
   pub lines_are : AreLinesFrom seen commands 0 least cut lines
   pub all : memory ≡ false → length lines ≡ length commands

@@ -1,8 +1,9 @@
 //! One client on one thread: its script is asked once each collector has ended.
 
-ghost use Rattle.std.specs.Prelude.{◌≡◌, ◌≢◌, ◌<◌, ℕ, List, [], length, All, IfOk, OnOk};
-ghost use Rattle.causal_base.specs.Journal.{IsLegal};
-ghost use Rattle.client_session.specs.Replies.{HaveAllEnded, IsReply};
+ghost use Rattle.std.specs.Prelude.{◌≡◌, ◌≢◌, ◌<◌, ℕ, List, [], length, IfOk, OnOk};
+ghost use Rattle.causal_base.specs.Journal.{IsLegal, delivered_by};
+ghost use Rattle.client_session.specs.Replies.{HaveAllEnded, IsEmptyCut, IsReply};
+ghost use Rattle.cut_scroll.specs.Cuts.{IsConsistent};
 ghost use Rattle.poet_serve.specs.Asking.{IsTold};
 ghost use Rattle.poet_serve.specs.Chains.{LeadTo};
 ghost use Rattle.poet_serve.specs.Transcripts.{seen_by};
@@ -11,6 +12,7 @@ use crate::report::{ClientReport, Line, Lines};
 use answer_text::Reply;
 use causal_base::{Book, Steps, Types};
 use client_session::{Command, Script, Session};
+use cut_scroll::ends_are_consistent;
 use event_book::Desk;
 use std::alloc::{AllocError, Global};
 use std::marker::Brand;
@@ -49,11 +51,12 @@ fn ask_each(
     requires types { types.now ≡ desk.now.setup.types }
     requires ended { HaveAllEnded (seen_by desk.now.setup desk.now.journal) }
     requires none { lines.old.items ≡ [] }
-    ensures lines { (cut : List ℕ) × (last : List ℕ) × (length cut ≡ types.now.traces)
-        × All (λ count. count ≡ 0) cut × LeadTo (seen_by desk.now.setup desk.now.journal)
-        script.now 0 (length desk.now.journal) cut lines.new.items last }
+    ensures lines { (cut : List ℕ) × (last : List ℕ) × IsEmptyCut types.now.traces cut
+        × LeadTo (seen_by desk.now.setup desk.now.journal) script.now 0
+        (length desk.now.journal) cut lines.new.items last }
     ensures all { OnOk result (length lines.new.items ≡ length script.now) }
 {
+    ends_are_consistent();
     // Reading it shows that the journal is legal.
     let _setup = desk.setup();
     let mut session = Session::new(alloc, types.traces())?;
@@ -87,10 +90,12 @@ fn ask_one<L: Ledger>(
     requires name { blank.name ≡ L.name }
     requires parts { blank.parts ≡ L.parts }
     requires some { 0 < blank.parts }
+    requires consistent { IsConsistent types.now (delivered_by desk.now.journal) session.old }
     ensures reply { IfOk result (λ reply.
         IsReply (seen_by desk.now.setup desk.now.journal) session.old command.now reply
         session.new) }
     ensures told { IfOk result (λ reply. reply ≢ Reply.Later) }
+    ensures consistent { IsConsistent types.now (delivered_by desk.now.journal) session.new }
 {
     let mut steps = Steps::<L>::new(blank);
     session.ask(alloc, desk, types, command, &mut steps)

@@ -37,7 +37,8 @@ EndsOver name a b before after (NotBegun trouble) = ⊥
 EndsOver name a b before after (Ran told) = ⊥
 EndsOver name a b before after (HasLoaded told) = ⊥
 
--- How a load of so many events ends: with what came of it, or for want of memory. No file is touched.
+-- How a load of so many events ends: with what came of it, or for want of memory. No file is
+-- touched.
 abbrev pub EndsLoad : ℕ → FilesState → FilesState → Outcome → Type 0
 EndsLoad events before after outcome = (after ≡ before)
     × ((outcome ≡ NoMemory)

@@ -12,8 +12,8 @@ use Rattle.run_text.specs.Runs.{RunTold, text_of}
 use Rattle.run_text.specs.Runs.{status_of as status_of_run}
 
 -- What the program can end with, if what it writes can be written: an answer; words that ask for
--- nothing; what keeps a question from its answer; what kept a run from beginning; a run; or what came
--- of a load.
+-- nothing; what keeps a question from its answer; what kept a run from beginning; a run; or what
+-- came of a load.
 pub data Outcome : Type 0 where
   Answered : Answer Bool → Outcome
   NoPlan : Outcome

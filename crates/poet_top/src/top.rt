@@ -34,8 +34,8 @@ pub(crate) const WRITE_FAILED: u8 = 3;
 /// The words `ask EVENTS A B` ask whether the event A happened before the event B, over the events
 /// of the file EVENTS. Status 0 comes with the answer. Any other has one line written that says
 /// why: 1 where the words ask for nothing, 2 where the file is absent, doesn't open or can't be
-/// read, 6 with the first line that is no event and what is wrong with it, 7 where memory ran out, 8
-/// where its events have more than 10,000 different ids. The file may have up to 1,073,741,824
+/// read, 6 with the first line that is no event and what is wrong with it, 7 where memory ran out,
+/// 8 where its events have more than 10,000 different ids. The file may have up to 1,073,741,824
 /// bytes.
 ///
 /// The words `replay [--levels LIST] [--after W] TARGET ITEM ..` feed files of events (`e:NAME`) to
@@ -43,12 +43,12 @@ pub(crate) const WRITE_FAILED: u8 = 3;
 /// (`c:NAME`) and the closing script (`z:NAME`), and have the journal written with what each was
 /// told. Before it one line is written with status 1, 2, 4 (the target is refused), 5 (a script is)
 /// or 7 where it doesn't come about. After it the status is the first that applies: 2 where a read
-/// of a file of events failed, 6 where one of its lines has a fault, 8 where 400,000 events came and
-/// there were more, 7 where memory ran out, 9 where two events have one id, 10 where events are
+/// of a file of events failed, 6 where one of its lines has a fault, 8 where 400,000 events came
+/// and there were more, 7 where memory ran out, 9 where two events have one id, 10 where events are
 /// held, else 0.
 ///
-/// The words `load N` make a list of N events, up to 400,000, from a number, serve it as the texts of
-/// three collectors, and have six lines written: how many events there are, how many entries the
+/// The words `load N` make a list of N events, up to 400,000, from a number, serve it as the texts
+/// of three collectors, and have six lines written: how many events there are, how many entries the
 /// journal has, how many numbers the stamps have, how many of them have all traces, how many events
 /// are before the last one, and the status, which is 0. It is 7 where memory ran out.
 pub fn poet_still<F: Files, K: Sink>(
@@ -70,8 +70,8 @@ pub fn poet_still<F: Files, K: Sink>(
 /// Does what words ask for, writes the outcome, and answers the status.
 fn carry_out<F: Files, K: Sink>(alloc: Global, plan: Plan<'_>, files: &mut F, out: &mut K) -> u8
     requires { (words : List (List ℕ)) × IsPlan words (asked_by plan) }
-    ensures { IsToldOf (EndsAsked (asked_by plan.entry) (F.state files.old) (F.state files.new)) result
-        (K.state out.old) (K.state out.new) }
+    ensures { IsToldOf (EndsAsked (asked_by plan.entry) (F.state files.old) (F.state files.new))
+        result (K.state out.old) (K.state out.new) }
 {
     match plan {
         Plan::Ask(plan) => ask_and_tell(alloc, &plan, files, out),

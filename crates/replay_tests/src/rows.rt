@@ -5,6 +5,7 @@ pub mod deliveries;
 pub mod files;
 pub mod lines;
 pub mod loads;
+pub mod neighbours;
 pub mod words;
 
 /// A file: its name, its text, and the numbers of the reads that fail.

@@ -7,6 +7,7 @@ use crate::rows::deliveries::deliveries;
 use crate::rows::files::files;
 use crate::rows::lines::lines;
 use crate::rows::loads::loads;
+use crate::rows::neighbours::neighbours;
 use crate::rows::words::words;
 use crate::rows::{Row, TYPES};
 use poet_io::{MemFolder, MemSink};
@@ -89,6 +90,7 @@ fn runs_are_those_worked_out(rt: HostRuntime) -> Result<(), Fail> {
     assert!(rt; come_out(alloc, deliveries())?);
     assert!(rt; come_out(alloc, damaged())?);
     assert!(rt; come_out(alloc, lines())?);
+    assert!(rt; come_out(alloc, neighbours())?);
     assert!(rt; come_out(alloc, loads())?);
     assert!(rt; come_out(alloc, words())?);
     assert!(rt; come_out(alloc, files())?);

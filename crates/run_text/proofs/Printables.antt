@@ -1,6 +1,6 @@
 -- What a transcript tells can be printed.
 use Rattle.std.proofs.Common.{◌≡◌, ◌≢◌, ℕ, ◌+◌, ◌<◌, zero, suc, Bool, true, false, inl, inr, List, [], ◌∷◌, ◌++◌, length, get_or, take, drop, refl, sym, ◌∙◌, ap, subst, arith}
-use Rattle.std.specs.Prelude.{Contains, Some, slice_get, reverse}
+use Rattle.std.specs.Prelude.{Contains, Option, None, Some, slice_get, reverse}
 use Rattle.std.specs.List.{AllByRecursion}
 use Rattle.std.proofs.lemmas.List.{reverse-append, take-append-drop, take_more}
 use Rattle.std.proofs.lemmas.Option.{get_or_from_slice_get, slice_get_within}
@@ -10,6 +10,7 @@ use Rattle.answer_text.specs.Texts.{IsPrintable, IsPrintableEntry}
 use Rattle.causal_base.specs.declared.entry.Entry.{Entry}
 use Rattle.causal_base.specs.declared.entry.Entry.TheVariants as entry
 use Rattle.causal_base.specs.declared.event.Event as event
+use Rattle.causal_base.specs.declared.event_id.EventId.{EventId}
 use Rattle.causal_base.specs.declared.related.Related.{Related}
 use Rattle.causal_base.specs.declared.related.Related.TheVariants as related
 use Rattle.causal_base.specs.Event.{IsFit}
@@ -18,8 +19,8 @@ use Rattle.causal_base.specs.Past.{IsLegalPast, MayStand}
 use Rattle.causal_base.specs.Types.{TypeTable}
 use Rattle.causal_base.proofs.CallerLemmas.{came_fit, delivered_came, reverse-push}
 use Rattle.client_session.specs.declared.command.Command.{Command}
-use Rattle.client_session.specs.declared.command.Command.TheVariants.{Before, Relation, Event, Stamp, Count, Await}
-use Rattle.client_session.specs.Replies.{Seen, IsReply, IsSaid, word_of, yes_or_no}
+use Rattle.client_session.specs.declared.command.Command.TheVariants.{Before, Relation, Event, Stamp, GreatestBefore, LeastAfter, CutNone, CutAll, CutTo, CutBack, CutHas, Count, Await}
+use Rattle.client_session.specs.Replies.{Seen, IsReply, IsSaid, id_or_nothing, word_of, yes_or_no}
 use Rattle.poet_serve.specs.declared.report.ClientReport.{ClientReport}
 use Rattle.poet_serve.specs.declared.report.Line.{Line}
 use Rattle.poet_serve.specs.Asking.{AreLinesFrom, IsLine, seen_at}
@@ -53,6 +54,10 @@ word_printable types related.Concurrent = tt
 word_printable types related.Same = tt
 word_printable types related.Partners = tt
 
+id_printable : (types : TypeTable) (found : Option EventId) → IsPrintable types (id_or_nothing found)
+id_printable types None = tt
+id_printable types (Some id) = tt
+
 -- what is said and isn't 'later' can be printed
 said_printable : (seen : Seen) (cut : List ℕ) (command : Command) (said : Reply) (after : List ℕ) → IsLegal seen.types seen.journal → IsSaid seen cut command said after → said ≢ reply.Later → IsPrintable seen.types said
 said_printable seen cut (Before a b) said after legal says now =
@@ -62,6 +67,16 @@ said_printable seen cut (Relation a b) said after legal says now =
 said_printable seen cut (Event a) said after legal says now =
     subst (IsPrintable seen.types) (sym says.0.3) (delivered_fit seen.types seen.journal legal says.0.0 says.0.1)
 said_printable seen cut (Stamp a) said after legal says now = subst (IsPrintable seen.types) (sym says.0.shows) tt
+said_printable seen cut (GreatestBefore a trace) said after legal says now =
+    subst (IsPrintable seen.types) (sym says.0.2) (id_printable seen.types says.0.0)
+said_printable seen cut (LeastAfter a trace) said after legal says now =
+    subst (IsPrintable seen.types) (sym says.0.2) (id_printable seen.types says.0.0)
+said_printable seen cut CutNone said after legal says now = subst (IsPrintable seen.types) (sym says.1) tt
+said_printable seen cut CutAll said after legal says now = subst (IsPrintable seen.types) (sym says.1) tt
+said_printable seen cut (CutTo a) said after legal says now = subst (IsPrintable seen.types) (sym says.1) tt
+said_printable seen cut (CutBack a) said after legal says now = subst (IsPrintable seen.types) (sym says.1) tt
+said_printable seen cut (CutHas a) said after legal says now =
+    subst (IsPrintable seen.types) (sym says.0.2) (answer_printable seen.types says.0.0)
 said_printable seen cut Count said after legal says now = subst (IsPrintable seen.types) (sym says.0) tt
 said_printable seen cut (Await a) said after legal says now = elim says.0 [
   | inl here ↦ subst (IsPrintable seen.types) (sym here.1) tt

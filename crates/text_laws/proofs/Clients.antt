@@ -16,6 +16,7 @@ use Rattle.poet_serve.specs.Asking.{IsTold}
 use Rattle.poet_serve.specs.Transcripts.{AreToldFrom}
 use Rattle.run_text.specs.Lines.{ended_lines, lines_of_client, lines_of_closing, text_of_client, text_of_line, with_number}
 use Rattle.text_laws.proofs.Items.{ended-map, line_of}
+use Rattle.text_laws.proofs.CutsOnce.{empty_once}
 use Rattle.text_laws.proofs.Lines.{lines_once}
 use Rattle.text_laws.proofs.Replies.{Laws}
 use Rattle.text_laws.proofs.Tokens.{decimal_is_high, high_once}
@@ -81,7 +82,7 @@ module _ (laws : Laws) (types : TypeTable) (clustering : Clustering) (n m : ℕ)
       let parted = sym (from_parted types number commands scripts report clients rest) ∙ (same ∙ from_parted types number commands scripts other others more) in
       let headed = sym (behind_first (text_of_client number (length report.lines)) (text_of_line types commands) report.lines _) ∙ (parted ∙ behind_first (text_of_client number (length other.lines)) (text_of_line types commands) other.lines _) in
       let passed = head_passed number (length report.lines) (length other.lines) _ _ headed in
-      let first = lines_once laws types clustering n m journal legal short commands 0 least least' told.0.cut told_too.0.cut report.lines other.lines _ _ told.0.lines_are told_too.0.lines_are
+      let first = lines_once laws types clustering n m journal legal short commands 0 least least' told.0.cut told_too.0.cut (empty_once types.traces told_too.0.cut told.0.cut told_too.0.empty told.0.empty) report.lines other.lines _ _ told.0.lines_are told_too.0.lines_are
       (no_line (ended_lines (clients_from types (number + 1) scripts clients) ++ rest) (clients_begin types (number + 1) scripts clients rest begins)) (no_line (ended_lines (clients_from types (number + 1) scripts others) ++ more) (clients_begin types (number + 1) scripts others more begins_too)) passed in
       let behind = clients_once (number + 1) least least' scripts clients others rest more told.1 told_too.1 begins begins_too first.1 in
       let one : report.lines ≡ other.lines = first.0 in
@@ -94,4 +95,4 @@ module _ (laws : Laws) (types : TypeTable) (clustering : Clustering) (n m : ℕ)
   closing_once least least' commands report other rest more told told_too ends ends_too same =
       let headed = sym (behind_first (with_number (codes "closing ") (length report.lines)) (text_of_line types commands) report.lines rest) ∙ (same ∙ behind_first (with_number (codes "closing ") (length other.lines)) (text_of_line types commands) other.lines more) in
       let passed = number_passed (codes "closing ") (length report.lines) (length other.lines) _ _ headed in
-      lines_once laws types clustering n m journal legal short commands 0 least least' told.cut told_too.cut report.lines other.lines rest more told.lines_are told_too.lines_are ends ends_too passed
+      lines_once laws types clustering n m journal legal short commands 0 least least' told.cut told_too.cut (empty_once types.traces told_too.cut told.cut told_too.empty told.empty) report.lines other.lines rest more told.lines_are told_too.lines_are ends ends_too passed

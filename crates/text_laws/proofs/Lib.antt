@@ -3,6 +3,8 @@ mod Items
 mod Events
 mod Entries
 mod Journals
+mod CutsOnce
+mod NearestOnce
 mod Replies
 mod Levels
 mod Stops

@@ -18,7 +18,8 @@ loop-trace-preserved g c =
           (let here = subst (λ m. IsUnreached types (delivered_by journal) x trace m c.unreached.result) (c.loop-trace.invariant.left trace (omega arith)) (c.unreached.ensures.unreached journal stands x there is) in
           subst (λ n. IsUnreached types (delivered_by journal) x trace (get_or c.args.counts.now trace 0) n) (sym (get_or-set_same c.loop-trace.counts trace c.unreached.result 0 inside)) here);
       left = λ k past. let other : k ≢ trace = omega (arith, past) in get_or-set_other c.loop-trace.counts trace k c.unreached.result 0 other ∙ c.loop-trace.invariant.left k (omega (arith, past));
+      asked = omega (arith, c.loop-trace.invariant.asked, c.unreached.ensures.steps);
     }
 
-pub returns : goal.returns
-returns g c journal stands x there is trace low = c.loop-trace.invariant.lowered journal stands x there is trace (omega (arith, low))
+pub returns-clause-lowered : goal.returns-clause-lowered
+returns-clause-lowered g c journal stands x there is trace low = c.loop-trace.invariant.lowered journal stands x there is trace (omega (arith, low))

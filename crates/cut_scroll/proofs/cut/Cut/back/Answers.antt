@@ -19,7 +19,7 @@ returns-then-has-clause-moved g c journal stands =
     let was = c.deref_mut.ensures.value ∙ c.self.view_is in
     let long = c.lower.auto.counts ∙ ap length was ∙ consistent.is_cut.traces in
     let greatest = lowered_is_greatest types journal legal e its.0 before after consistent long
-    (λ trace low. subst (λ (m : List ℕ). IsUnreached types (delivered_by journal) e trace (slice_index m trace) (slice_index after trace)) was (c.lower.ensures journal stands e its.0 its.1 trace low)) in (
+    (λ trace low. subst (λ (m : List ℕ). IsUnreached types (delivered_by journal) e trace (slice_index m trace) (slice_index after trace)) was (c.lower.ensures.lowered journal stands e its.0 its.1 trace low)) in (
       ((e, its.0, its.1), tt),
       (
         e,

@@ -1,7 +1,7 @@
 use Rattle.std.proofs.Common.{subst}
 use Rattle.causal_base.specs.Fields.{HasIdFault, NamesNoNumber}
 use Rattle.client_session.proofs.FormLemmas.{bad_number_first}
-use Rattle.client_session.proofs.line.id_in.Goals as goal
+use Rattle.client_session.proofs.arguments.id_in.Goals as goal
 
 pub returns-in-Err-BadNumber-clause-err : goal.returns-in-Err-BadNumber-clause-err
 returns-in-Err-BadNumber-clause-err c =

@@ -198,8 +198,8 @@ fn no_counts() -> [u32; MOST_TRACES as usize]
     [0; MOST_TRACES as usize]
 }
 
-/// Makes room for so many marks in all, and a quarter more where more is needed. It fails where
-/// there is no memory.
+/// Makes room for so many marks in all, and for as many again where more is needed, so that all
+/// copies together are of no more marks than there is room for. It fails where there is no memory.
 fn make_room(marks: &mut Vec<Mark>, room: usize) -> Result<(), AllocError>
     requires { room ≤ 2 * MOST_EVENTS + MOST_COLLECTORS }
     ensures items { marks.new.items ≡ marks.old.items }
@@ -209,7 +209,7 @@ fn make_room(marks: &mut Vec<Mark>, room: usize) -> Result<(), AllocError>
     if room <= marks.capacity() {
         return Ok(());
     }
-    marks.reserve_exact(room + room / 4 - marks.len())
+    marks.reserve_exact(2 * room - marks.len())
 }
 
 /// The entry that the mark at a place stands for, if there is one.

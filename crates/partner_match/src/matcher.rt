@@ -1,31 +1,28 @@
-ghost use Rattle.std.specs.Prelude.{◌≡◌, ◌≢◌, ◌⊎◌, ◌↔◌, ℕ, [], Contains, OnOk, OnErr};
+ghost use Rattle.std.specs.Prelude.{◌≡◌, ◌≢◌, ◌≤◌, [], length, OnOk, OnErr};
 ghost use Rattle.causal_base.specs.declared.event_id.EventId.{EventId};
-ghost use Rattle.partner_match.specs.Waiting.{waiting_for, WaitsToo};
+ghost use Rattle.partner_match.specs.Waiting.{waiting_for, waiting_under, WaitsToo};
 
+use crate::waiters::Waiters;
 use causal_base::EventId;
-use smallvec::SmallVec;
 use std::alloc::{AllocError, Global};
-use std::collections::BTreeMap;
 use std::marker::Model;
 
-/// How many traces wait for an event at most, so that no list of its own is needed.
-const FEW_TRACES: usize = 4;
-
-/// For events that haven't gone yet, the traces that may go on once they have. Contracts see ids,
+/// For events that haven't gone yet, the traces that may go on once they have. What a call costs
+/// grows with the logarithm of how many events of the same trace are waited for. Contracts see ids,
 /// each with its traces.
 #[derive(Debug, Drop)]
 pub struct Matcher {
-    waiting: BTreeMap<EventId, SmallVec<u32, FEW_TRACES>>,
+    // One for each trace, up to the highest that was ever waited for.
+    waiting: Vec<Waiters>,
     alloc: Global,
 }
 
 impl Model for Matcher {
-    ghost use Rattle.std.specs.Prelude.{map};
     ghost use Rattle.partner_match.specs.Waiting.{Waits};
 
     ghost Value = { Waits };
 
-    ghost view = { λ m. map (λ entry. (entry.0, entry.1.items)) m.waiting.entries };
+    ghost view = { λ m. m.waiting.items };
 }
 
 impl Matcher {
@@ -34,7 +31,7 @@ impl Matcher {
         ensures { result ≡ [] }
     {
         Matcher {
-            waiting: BTreeMap::new(alloc),
+            waiting: Vec::new(alloc),
             alloc,
         }
     }
@@ -45,22 +42,20 @@ impl Matcher {
         ensures ok { OnOk result (WaitsToo self.old self.new on trace) }
         ensures err { OnErr result (self.new ≡ self.old) }
     {
-        match self.waiting.get_mut(&on) {
-            Some(traces) => add(traces, trace),
-            None => {
-                let traces = SmallVec::from_slice(self.alloc, &[trace])?;
-                self.waiting.insert(on, traces)?;
-                Ok(())
-            }
+        if (on.trace as usize) < self.waiting.len() {
+            return self.waiting[on.trace as usize].wait(self.alloc, on.number, trace);
         }
+        let mut waiters = Waiters::new(self.alloc);
+        waiters.wait(self.alloc, on.number, trace)?;
+        put_behind(&mut self.waiting, self.alloc, on.trace, waiters)
     }
 
     /// The traces that wait for the event with this id.
     pub fn woken(&self, on: EventId) -> &[u32]
         ensures { result.now ≡ waiting_for self.now on }
     {
-        match self.waiting.get(&on) {
-            Some(traces) => traces.as_slice(),
+        match self.waiting.get(on.trace as usize) {
+            Some(waiters) => waiters.woken(on.number),
             None => &[],
         }
     }
@@ -71,19 +66,31 @@ impl Matcher {
         ensures others { (other : EventId) → other ≢ on
             → waiting_for self.new other ≡ waiting_for self.old other }
     {
-        self.waiting.remove(&on);
+        if (on.trace as usize) < self.waiting.len() {
+            self.waiting[on.trace as usize].forget(on.number);
+        }
     }
 }
 
-/// Adds a trace to those that wait, where it isn't one of them. They are kept in rising order, so
-/// that many events of a trace that wait for one are looked for by halves and kept as one.
-fn add(traces: &mut SmallVec<u32, FEW_TRACES>, trace: u32) -> Result<(), AllocError>
-    ensures ok { OnOk result ((other : ℕ) → Contains traces.new.items other
-        ↔ (Contains traces.old.items other ⊎ (other ≡ trace))) }
-    ensures err { OnErr result (traces.new ≡ traces.old) }
+/// Puts those that wait for events of a trace behind the others, and for each trace between them
+/// none. It fails where there is no memory, and then nothing changes.
+fn put_behind(
+    waiting: &mut Vec<Waiters>,
+    alloc: Global,
+    trace: u32,
+    waiters: Waiters,
+) -> Result<(), AllocError>
+    requires { length waiting.old.items ≤ trace }
+    ensures here { OnOk result ((id : EventId) → id.trace ≡ trace
+        → waiting_for waiting.new.items id ≡ waiting_under waiters id.number) }
+    ensures elsewhere { OnOk result ((id : EventId) → id.trace ≢ trace
+        → waiting_for waiting.new.items id ≡ waiting_for waiting.old.items id) }
+    ensures err { OnErr result (waiting.new.items ≡ waiting.old.items) }
 {
-    if let Err(at) = traces.as_slice().binary_search(&trace) {
-        traces.insert(at, trace)?;
+    waiting.reserve(trace as usize + 1 - waiting.len())?;
+    for _ in waiting.len()..trace as usize {
+        waiting.push_reserved(Waiters::new(alloc));
     }
+    waiting.push_reserved(waiters);
     Ok(())
 }

@@ -14,7 +14,13 @@ fn traces_wait(rt: HostRuntime) -> Result<(), Fail> {
     for trace in [9, 3, 3, 7, 5, 3, 8, 9] {
         matcher.wait(on, trace)?;
     }
+    let below = EventId {
+        trace: 0,
+        number: 1,
+    };
+    matcher.wait(below, 4)?;
     assert_eq!(rt; matcher.woken(on), [3, 5, 7, 8, 9].as_slice());
+    assert_eq!(rt; matcher.woken(below), [4].as_slice());
     matcher.forget(on);
     assert!(rt; matcher.woken(on).is_empty());
     Ok(())

@@ -1,8 +1,6 @@
 use Rattle.std.proofs.Common.{◌≡◌, ◌+◌, ℕ, [], ◌∷◌, ◌++◌, reverse, sym, ◌∙◌, ap, subst, arith, Some}
-use Rattle.std.specs.Prelude.{◌==◌, count_by, Option}
-use Rattle.std.specs.Option.{option_map, option_to_list}
+use Rattle.std.specs.Prelude.{◌==◌, count_by}
 use Rattle.std.proofs.lemmas.List.Sums.{count_by-le-length}
-use Rattle.causal_base.specs.declared.block.Block.{Block}
 use Rattle.causal_base.specs.declared.block.Block.TheVariants.{One}
 use Rattle.causal_base.specs.declared.entry.Entry.TheVariants.{Gone}
 use Rattle.causal_base.specs.declared.event.Event.{Event}
@@ -13,7 +11,6 @@ use Rattle.causal_base.specs.Past.{event_of, IsNext}
 use Rattle.causal_base.specs.Stamps.{ClusterTimestamp, IsStamp}
 use Rattle.cluster_levels.specs.Levels.{StandsAfter, clustering_of}
 use Rattle.delivery.specs.Deliveries.{TypedJournal}
-use Rattle.delivery.specs.Leading.{entry_of}
 use Rattle.event_book.specs.Stamping.{IsMergeOf, IsStamped, StampedState}
 use Rattle.event_book.proofs.Blocks.{one_found}
 use Rattle.event_book.proofs.Going.{communications_with, full_few, most_one, number_one, on_one, stamped_one}

@@ -1,8 +1,6 @@
 use Rattle.std.proofs.Common.{◌≡◌, ◌+◌, List, [], ◌∷◌, ◌++◌, length, reverse, sym, ◌∙◌, ap, subst, arith, Some}
-use Rattle.std.specs.Prelude.{◌==◌, count_by, Option}
-use Rattle.std.specs.Option.{option_map, option_to_list}
+use Rattle.std.specs.Prelude.{◌==◌, count_by}
 use Rattle.std.proofs.lemmas.List.Sums.{count_by-le-length}
-use Rattle.causal_base.specs.declared.block.Block.{Block}
 use Rattle.causal_base.specs.declared.block.Block.TheVariants.{Two}
 use Rattle.causal_base.specs.declared.entry.Entry.TheVariants.{Pair}
 use Rattle.causal_base.specs.declared.event.Event.{Event}
@@ -13,7 +11,6 @@ use Rattle.causal_base.specs.Past.{event_of, IsNext}
 use Rattle.causal_base.specs.Stamps.{ClusterTimestamp, IsStamp}
 use Rattle.cluster_levels.specs.Levels.{StandsAfter, clustering_of}
 use Rattle.delivery.specs.Deliveries.{TypedJournal}
-use Rattle.delivery.specs.Leading.{entry_of}
 use Rattle.event_book.specs.Stamping.{IsMergeOf, IsStamped, StampedState}
 use Rattle.shared_list.proofs.CallerLemmas.{length-with_item}
 use Rattle.shared_list.specs.Traces.{list_of, with_item}

@@ -1,8 +1,8 @@
 use Rattle.std.proofs.Common.{◌≡◌, ◌≤◌, ◌⊎◌, ◌↔◌, ℕ, List, length, sym, subst}
 use Rattle.std.specs.Prelude.{Contains}
 use Rattle.std.specs.List.{insert}
-use Rattle.partner_match.proofs.WaitLists.{put_in}
-use Rattle.partner_match.proofs.matcher.add.Goals as goal
+use Rattle.partner_match.proofs.Numbers.{put_in}
+use Rattle.partner_match.proofs.waiters.add.Goals as goal
 
 pub returns-in_ok-insert-clause-ok : goal.returns-in_ok-insert-clause-ok
 returns-in_ok-insert-clause-ok c = λ other.

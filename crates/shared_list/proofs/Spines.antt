@@ -10,24 +10,24 @@ use Rattle.shared_list.specs.Blocks.{Held, parts_of, Closes, block_items, branch
 use Rattle.shared_list.proofs.Pieces.{length-pieces, slice_get-append_left, slice_get-append_right}
 
 module _ {T : Type 0} where
-  -- a full branch has 1,024 items
-  pub branches_of_1024 : (branches : List (Held (Held T))) → All IsFullBranch branches → All (λ branch. length (branch_items branch) ≡ 1024) branches
-  branches_of_1024 branches full =
-      All-weaker IsFullBranch (λ branch. length (branch_items branch) ≡ 1024) (λ branch is. length-pieces block_items 64 (parts_of branch) is.full ∙ ap (λ n. n * 64) is.count) branches full
+  -- a full branch has 512 items
+  pub branches_of_512 : (branches : List (Held (Held T))) → All IsFullBranch branches → All (λ branch. length (branch_items branch) ≡ 512) branches
+  branches_of_512 branches full =
+      All-weaker IsFullBranch (λ branch. length (branch_items branch) ≡ 512) (λ branch is. length-pieces block_items 64 (parts_of branch) is.full ∙ ap (λ n. n * 64) is.count) branches full
 
   -- a full limb has 16,384 items
   pub limbs_of_16384 : (limbs : List (Held (Held (Held T)))) → All IsFullLimb limbs → All (λ limb. length (limb_items limb) ≡ 16384) limbs
   limbs_of_16384 limbs full =
-      All-weaker IsFullLimb (λ limb. length (limb_items limb) ≡ 16384) (λ limb is. length-pieces branch_items 1024 (parts_of limb) (branches_of_1024 (parts_of limb) is.full) ∙ ap (λ n. n * 1024) is.count) limbs full
+      All-weaker IsFullLimb (λ limb. length (limb_items limb) ≡ 16384) (λ limb is. length-pieces branch_items 512 (parts_of limb) (branches_of_512 (parts_of limb) is.full) ∙ ap (λ n. n * 512) is.count) limbs full
 
   module _ (limbs : List (Held (Held (Held T)))) (branches : List (Held (Held T))) (blocks : List (Held T)) (spine : IsSpine limbs branches blocks) where
     length-limbs : length (flat_map limb_items limbs) ≡ length limbs * 16384
     length-limbs = length-pieces limb_items 16384 limbs (limbs_of_16384 limbs spine.limbs_full)
 
-    length-branches : length (flat_map branch_items branches) ≡ length branches * 1024
-    length-branches = length-pieces branch_items 1024 branches (branches_of_1024 branches spine.branches_full)
+    length-branches : length (flat_map branch_items branches) ≡ length branches * 512
+    length-branches = length-pieces branch_items 512 branches (branches_of_512 branches spine.branches_full)
 
-    pub length-spine_items : length limbs * 16384 + length branches * 1024 + length blocks * 64 ≡ length (spine_items limbs branches blocks)
+    pub length-spine_items : length limbs * 16384 + length branches * 512 + length blocks * 64 ≡ length (spine_items limbs branches blocks)
     length-spine_items =
         let blocks_length : length (flat_map block_items blocks) ≡ length blocks * 64 = length-pieces block_items 64 blocks spine.blocks_full in
         omega (arith, length-append (flat_map limb_items limbs) (flat_map branch_items branches ++ flat_map block_items blocks), length-append (flat_map branch_items branches) (flat_map block_items blocks), length-limbs, length-branches)
@@ -37,19 +37,19 @@ module _ {T : Type 0} where
     slice_get-limbs at h = sym (slice_get-append_left (flat_map limb_items limbs) (flat_map branch_items branches ++ flat_map block_items blocks) at (omega (arith, length-limbs)))
 
     -- an item of the branches past them
-    pub slice_get-branches : (at k : ℕ) → at ≡ length limbs * 16384 + k → k < length branches * 1024 → slice_get (flat_map branch_items branches) k ≡ slice_get (spine_items limbs branches blocks) at
+    pub slice_get-branches : (at k : ℕ) → at ≡ length limbs * 16384 + k → k < length branches * 512 → slice_get (flat_map branch_items branches) k ≡ slice_get (spine_items limbs branches blocks) at
     slice_get-branches at k e h =
         sym (slice_get-append_right (flat_map limb_items limbs) (flat_map branch_items branches ++ flat_map block_items blocks) at k (omega (arith, length-limbs))
         ∙ slice_get-append_left (flat_map branch_items branches) (flat_map block_items blocks) k (omega (arith, length-branches)))
 
     -- an item of the blocks past those
-    pub slice_get-blocks : (at k : ℕ) → at ≡ length limbs * 16384 + (length branches * 1024 + k) → slice_get (flat_map block_items blocks) k ≡ slice_get (spine_items limbs branches blocks) at
+    pub slice_get-blocks : (at k : ℕ) → at ≡ length limbs * 16384 + (length branches * 512 + k) → slice_get (flat_map block_items blocks) k ≡ slice_get (spine_items limbs branches blocks) at
     slice_get-blocks at k e =
-        sym (slice_get-append_right (flat_map limb_items limbs) (flat_map branch_items branches ++ flat_map block_items blocks) at (length branches * 1024 + k) (omega (arith, length-limbs))
-        ∙ slice_get-append_right (flat_map branch_items branches) (flat_map block_items blocks) (length branches * 1024 + k) k (omega (arith, length-branches)))
+        sym (slice_get-append_right (flat_map limb_items limbs) (flat_map branch_items branches ++ flat_map block_items blocks) at (length branches * 512 + k) (omega (arith, length-limbs))
+        ∙ slice_get-append_right (flat_map branch_items branches) (flat_map block_items blocks) (length branches * 512 + k) k (omega (arith, length-branches)))
 
     -- a full open branch is closed
-    pub IsSpine-close_branch : (branches' : List (Held (Held T))) → length branches < 16 → length blocks ≡ 16 → Closes branches branches' blocks → IsSpine limbs branches' []
+    pub IsSpine-close_branch : (branches' : List (Held (Held T))) → length branches < 32 → length blocks ≡ 8 → Closes branches branches' blocks → IsSpine limbs branches' []
     IsSpine-close_branch branches' room full closes =
         let is : IsFullBranch closes.0 = record { count = ap length closes.2 ∙ full; full = subst (All IsFullBlock) (sym closes.2) spine.blocks_full } in
         record {
@@ -62,7 +62,7 @@ module _ {T : Type 0} where
         }
 
     -- a full open limb is closed
-    pub IsSpine-close_limb : (limbs' : List (Held (Held (Held T)))) → length limbs < 2 ^ 40 → length branches ≡ 16 → Closes limbs limbs' branches → IsSpine limbs' [] blocks
+    pub IsSpine-close_limb : (limbs' : List (Held (Held (Held T)))) → length limbs < 2 ^ 40 → length branches ≡ 32 → Closes limbs limbs' branches → IsSpine limbs' [] blocks
     IsSpine-close_limb limbs' room full closes =
         let is : IsFullLimb closes.0 = record { count = ap length closes.2 ∙ full; full = subst (All IsFullBranch) (sym closes.2) spine.branches_full } in
         record {
@@ -73,12 +73,6 @@ module _ {T : Type 0} where
           branches_few = omega arith;
           blocks_few = spine.blocks_few;
         }
-
-pub IsSpine-same : {T : Type 0} {limbs limbs' : List (Held (Held (Held T)))} {branches branches' : List (Held (Held T))} {blocks blocks' : List (Held T)} → IsSpine limbs branches blocks → limbs' ≡ limbs → branches' ≡ branches → blocks' ≡ blocks → IsSpine limbs' branches' blocks'
-IsSpine-same {T} {limbs} {limbs'} {branches} {branches'} {blocks} {blocks'} spine l b k =
-    subst (λ (xs : List (Held T)). IsSpine limbs' branches' xs) (sym k)
-    (subst (λ (xs : List (Held (Held T))). IsSpine limbs' xs blocks) (sym b)
-    (subst (λ (xs : List (Held (Held (Held T)))). IsSpine xs branches blocks) (sym l) spine))
 
 -- closing changes no item
 flat_map-closes : {P T : Type 0} (f : P → List T) (old new : List (Held P)) (parts : List P) → Closes old new parts → flat_map (λ held. flat_map f (parts_of held)) new ≡ flat_map (λ held. flat_map f (parts_of held)) old ++ flat_map f parts
@@ -132,8 +126,8 @@ module _ {T : Type 0} (limbs limbs' : List (Held (Held (Held T)))) (branches bra
 
   pub IsSpine-clones : IsSpine limbs branches blocks → IsSpine limbs' branches' blocks'
   IsSpine-clones spine =
-      let FullLimb : List (Held (Held T)) → Type 0 = λ parts. (length parts ≡ 16) × All IsFullBranch parts in
-      let FullBranch : List (Held T) → Type 0 = λ parts. (length parts ≡ 16) × All IsFullBlock parts in
+      let FullLimb : List (Held (Held T)) → Type 0 = λ parts. (length parts ≡ 32) × All IsFullBranch parts in
+      let FullBranch : List (Held T) → Type 0 = λ parts. (length parts ≡ 8) × All IsFullBlock parts in
       let limbs_full = All-clones FullLimb limbs limbs' same_limbs (All-weaker IsFullLimb (λ limb. FullLimb (parts_of limb)) (λ limb is. (is.count, is.full)) limbs spine.limbs_full) in
       let branches_full = All-clones FullBranch branches branches' same_branches (All-weaker IsFullBranch (λ branch. FullBranch (parts_of branch)) (λ branch is. (is.count, is.full)) branches spine.branches_full) in
       record {
@@ -141,6 +135,6 @@ module _ {T : Type 0} (limbs limbs' : List (Held (Held (Held T)))) (branches bra
         branches_full = All-weaker (λ branch. FullBranch (parts_of branch)) IsFullBranch (λ branch is. record { count = is.0; full = is.1 }) branches' branches_full;
         blocks_full = All-clones (λ parts. length parts ≡ 64) blocks blocks' same_blocks spine.blocks_full;
         limbs_few = subst (λ n. n ≤ 2 ^ 40) (sym (length-clones limbs limbs' same_limbs)) spine.limbs_few;
-        branches_few = subst (λ n. n ≤ 16) (sym (length-clones branches branches' same_branches)) spine.branches_few;
-        blocks_few = subst (λ n. n ≤ 16) (sym (length-clones blocks blocks' same_blocks)) spine.blocks_few;
+        branches_few = subst (λ n. n ≤ 32) (sym (length-clones branches branches' same_branches)) spine.branches_few;
+        blocks_few = subst (λ n. n ≤ 8) (sym (length-clones blocks blocks' same_blocks)) spine.blocks_few;
       }

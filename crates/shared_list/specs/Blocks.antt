@@ -34,14 +34,14 @@ module _ {T : Type 0} where
   abbrev pub IsFullBlock : Held T → Type 0
   IsFullBlock block = length (block_items block) ≡ 64
 
-  -- a full branch has 16 blocks, each of them full
+  -- a full branch has 8 blocks, each of them full
   pub record IsFullBranch (branch : Held (Held T)) : Type 0 where
-    pub count : length (parts_of branch) ≡ 16
+    pub count : length (parts_of branch) ≡ 8
     pub full : All IsFullBlock (parts_of branch)
 
-  -- a full limb has 16 branches, each of them full
+  -- a full limb has 32 branches, each of them full
   pub record IsFullLimb (limb : Held (Held (Held T))) : Type 0 where
-    pub count : length (parts_of limb) ≡ 16
+    pub count : length (parts_of limb) ≡ 32
     pub full : All IsFullBranch (parts_of limb)
 
   -- the items of limbs, then of the branches past them, then of the blocks past those
@@ -59,5 +59,5 @@ module _ {T : Type 0} where
     pub branches_full : All IsFullBranch branches
     pub blocks_full : All IsFullBlock blocks
     pub limbs_few : length limbs ≤ 2 ^ 40
-    pub branches_few : length branches ≤ 16
-    pub blocks_few : length blocks ≤ 16
+    pub branches_few : length branches ≤ 32
+    pub blocks_few : length blocks ≤ 8

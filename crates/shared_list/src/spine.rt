@@ -11,14 +11,17 @@ use std::sync::Arc;
 /// How many items a full block has.
 pub(crate) const BLOCK_ITEMS: usize = 64;
 
-/// How many blocks a full branch has, and how many branches a full limb.
-const WIDTH: usize = 16;
+/// How many blocks a full branch has.
+const BRANCH_BLOCKS: usize = 8;
+
+/// How many branches a full limb has.
+const LIMB_BRANCHES: usize = 32;
 
 /// How many items a full branch has.
-const BRANCH_ITEMS: usize = WIDTH * BLOCK_ITEMS;
+const BRANCH_ITEMS: usize = BRANCH_BLOCKS * BLOCK_ITEMS;
 
 /// How many items a full limb has.
-const LIMB_ITEMS: usize = WIDTH * BRANCH_ITEMS;
+const LIMB_ITEMS: usize = LIMB_BRANCHES * BRANCH_ITEMS;
 
 /// How many limbs there are at most.
 const MOST_LIMBS: usize = 1 << 40;
@@ -105,6 +108,10 @@ impl<T: Drop> Spine<T> {
         }
         let block = Arc::new(*self.blocks.allocator(), block)?;
         self.blocks.push_reserved(block);
+
+        // A share copies one handle where all open blocks have just become a branch. Where there is
+        // no memory for that now, it is done before the next block.
+        let _ = close_full(&mut self.limbs, &mut self.branches, &mut self.blocks);
         Ok(())
     }
 
@@ -161,11 +168,28 @@ fn make_room<T: Drop>(
     ensures spine { IsSpine limbs.new.items branches.new.items blocks.new.items }
     ensures items { spine_items limbs.new.items branches.new.items blocks.new.items
         ≡ spine_items limbs.old.items branches.old.items blocks.old.items }
-    ensures few { OnOk result (vec_len blocks.new < 16) }
+    ensures few { OnOk result (vec_len blocks.new < 8) }
     ensures room { OnOk result (vec_len blocks.new < vec_capacity blocks.new) }
 {
-    if blocks.len() == WIDTH {
-        if branches.len() == WIDTH {
+    close_full(limbs, branches, blocks)?;
+    blocks.reserve(1)
+}
+
+/// Closes the open blocks where they make a full branch, and before that the open branches where
+/// they make a full limb. The items stay.
+fn close_full<T: Drop>(
+    limbs: &mut Vec<Limb<T>>,
+    branches: &mut Vec<Branch<T>>,
+    blocks: &mut Vec<Block<T>>,
+) -> Result<(), AllocError>
+    requires { IsSpine limbs.old.items branches.old.items blocks.old.items }
+    ensures spine { IsSpine limbs.new.items branches.new.items blocks.new.items }
+    ensures items { spine_items limbs.new.items branches.new.items blocks.new.items
+        ≡ spine_items limbs.old.items branches.old.items blocks.old.items }
+    ensures few { OnOk result (vec_len blocks.new < 8) }
+{
+    if blocks.len() == BRANCH_BLOCKS {
+        if branches.len() == LIMB_BRANCHES {
             if limbs.len() >= MOST_LIMBS {
                 return Err(AllocError);
             }
@@ -173,7 +197,7 @@ fn make_room<T: Drop>(
         }
         close(branches, blocks)?;
     }
-    blocks.reserve(1)
+    Ok(())
 }
 
 /// Makes one shared part of all open ones. Where it is refused, nothing changes.

@@ -24,7 +24,7 @@ returns-then-past_limbs-in_branches g c =
 pub returns-else-past_limbs-in_branches : goal.returns-else-past_limbs-in_branches
 returns-else-past_limbs-in_branches g c =
     let s = c.self.inside in
-    let k = c.args.at - c.len-in_limbs.result * 16384 - c.len-in_branches.result * 1024 in
+    let k = c.args.at - c.len-in_limbs.result * 16384 - c.len-in_branches.result * 512 in
     let limbs : c.len-in_limbs.result ≡ length s.limbs.items = c.len-in_limbs.ensures ∙ s.limbs.ok.0 in
     let branches : c.len-in_branches.result ≡ length s.branches.items = c.len-in_branches.ensures ∙ s.branches.ok.0 in
     c.item_of_blocks.ensures ∙ ap (λ xs. slice_get (flat_map block_items xs) k) c.deref-else-past_limbs-in_branches.ensures.value

@@ -1,5 +1,5 @@
 -- How the scripts of the clients are read, one after another, and what bytes of a file say.
-use Rattle.std.proofs.Common.{◌≡◌, ◌<◌, ◌+◌, ℕ, suc, inl, inr, List, [], ◌∷◌, ◌++◌, map, take, drop, get_or, length, Option, Some, None, refl, sym, ◌∙◌, ap, subst, arith}
+use Rattle.std.proofs.Common.{◌≡◌, ◌<◌, ◌+◌, ℕ, suc, inl, inr, List, [], ◌∷◌, ◌++◌, map, take, drop, get_or, length, Option, Some, None, refl, sym, ◌∙◌, subst, arith}
 use Rattle.std.specs.Prelude.{IfSome}
 use Rattle.std.proofs.lemmas.List.{length-map, length-take-le}
 use Rattle.run_files.proofs.Openings.{names_more, names_split}
@@ -7,7 +7,6 @@ use Rattle.causal_base.specs.Types.{TypeTable}
 use Rattle.client_session.specs.declared.command.Command.{Command}
 use Rattle.poet_io.specs.FilesState.{FilesState}
 use Rattle.poet_io.specs.Folder.{Folder}
-use Rattle.run_files.specs.declared.fault.Asker.{Asker}
 use Rattle.run_files.specs.declared.fault.Asker.TheVariants.{Client}
 use Rattle.run_files.specs.Files.{TellsOf, WasGivenBack, WasRead}
 use Rattle.run_files.specs.Loading.{LackScripts, LacksScript, SayScripts, SaysScript}

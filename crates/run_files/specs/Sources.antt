@@ -1,6 +1,5 @@
 -- The sources of the collectors: opened before a run, and given back after it.
-use Rattle.std.specs.Prelude.{◌≡◌, ◌<◌, ℕ, List, [], ◌∷◌, ◌++◌, map, Option, None, Some, IfSome, nat_lt}
-use Rattle.std.specs.List.{AllByRecursion}
+use Rattle.std.specs.Prelude.{◌≡◌, ℕ, List, [], ◌∷◌, ◌++◌, map, Option, None, Some, IfSome, nat_lt}
 use Rattle.poet_io.specs.FilesState.{FilesState}
 use Rattle.poet_io.specs.Folder.{Folder, IsOpenedAt}
 use Rattle.poet_io.specs.GivenBack.{ClosedFile, AreGivenBack}

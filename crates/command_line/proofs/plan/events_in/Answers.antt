@@ -1,4 +1,4 @@
-use Rattle.std.proofs.Common.{◌≡◌, arith}
+use Rattle.std.proofs.Common.{arith}
 use Rattle.causal_base.proofs.CallerLemmas.{number_once}
 use Rattle.command_line.proofs.plan.events_in.Goals as goal
 

@@ -1,4 +1,4 @@
-use Rattle.std.proofs.Common.{◌≡◌, ◌<◌, Bool, true, false, refl, sym, ap, subst}
+use Rattle.std.proofs.Common.{◌≡◌, ◌<◌, true, false, refl, sym, subst}
 use Rattle.std.specs.Prelude.{Option, None, Some, IfNone}
 use Rattle.std.proofs.lemmas.Option.{IfSome_then}
 use Rattle.causal_base.specs.declared.event_id.EventId.{EventId}

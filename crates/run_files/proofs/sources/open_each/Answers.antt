@@ -1,4 +1,4 @@
-use Rattle.std.proofs.Common.{rules, ◌≡◌, ◌∷◌, [], List, ◌+◌, ℕ, get_or, map, take, length, sym, ◌∙◌, ap, subst, arith}
+use Rattle.std.proofs.Common.{rules, ◌∷◌, [], List, ◌+◌, ℕ, get_or, map, take, length, sym, ◌∙◌, ap, subst, arith}
 use Rattle.std.specs.Prelude.{IfSome}
 use Rattle.std.proofs.lemmas.List.{map-append, length-append}
 use Rattle.poet_io.specs.FilesState.{FilesState}

@@ -20,5 +20,3 @@ mod limits;
 mod report;
 mod serving;
 mod tally;
-#[cfg(test)]
-mod tests;

@@ -12,6 +12,4 @@ mod law;
 mod limits;
 mod replay;
 mod taking;
-#[cfg(test)]
-mod tests;
 mod top;

@@ -20,5 +20,3 @@ mod law;
 mod limits;
 mod reader;
 mod split;
-#[cfg(test)]
-mod tests;

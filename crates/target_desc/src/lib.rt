@@ -31,6 +31,4 @@ mod mates;
 mod rows;
 mod target;
 mod target_error;
-#[cfg(test)]
-mod tests;
 mod traces;

@@ -1,10 +1,9 @@
-//! Tests of what no clause says: that reading succeeds where memory is left, and documents whose
-//! targets and refusals were worked out by hand.
+//! Target files: documents whose targets and refusals were worked out by hand.
 
-use crate::{Target, TargetError};
 use causal_base::Kind;
 use std::alloc::{AllocError, Global};
 use std::test::Fail;
+use target_desc::{Target, TargetError};
 
 /// The target of the worked examples.
 const THREE: &str = "traces = [\"p0\", \"p1\", \"p2\"]

@@ -1,7 +1,9 @@
+//! Lines of events: the one spelling of an event, and what a reader makes of texts in any pieces.
+
 ghost use Rattle.std.specs.Prelude.{◌<◌};
 
-use crate::{LineCause, LineError, Reader, event_of};
 use causal_base::{Event, EventId, Types};
+use raw_reader::{LineCause, LineError, Reader, event_of};
 use std::alloc::{AllocError, Global};
 use std::process::Abort;
 use std::test::Fail;

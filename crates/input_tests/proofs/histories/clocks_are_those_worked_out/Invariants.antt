@@ -1,4 +1,4 @@
-use Rattle.poet_top.proofs.tests.clocks_are_those_worked_out.Given as goal
+use Rattle.input_tests.proofs.histories.clocks_are_those_worked_out.Given as goal
 
 -- a ledger of this one count
 abbrev pub ghosts-have_clocks : goal.ghosts-have_clocks

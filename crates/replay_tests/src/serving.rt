@@ -1,14 +1,14 @@
-//! A test of what no clause says: that a run comes about where there is memory.
+//! A run below the top call: what its collectors and its clients report.
 
 ghost use Rattle.std.specs.Prelude.{◌≡◌, [], length, IfOk};
 
-use crate::{ClientReport, CollectorReport, Run, Stop, serve_in_turn};
 use answer_text::Reply;
 use causal_base::EventId;
 use client_session::Script;
 use cluster_levels::Sizes;
 use event_book::Desk;
 use poet_io::{Bytes, MemSource};
+use poet_serve::{ClientReport, CollectorReport, Run, Stop, serve_in_turn};
 use std::alloc::{AllocError, Global};
 use std::test::Fail;
 use target_desc::Target;

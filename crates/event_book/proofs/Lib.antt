@@ -4,6 +4,7 @@ mod Blocks
 mod StampLists
 mod Going
 mod AtHand
+mod Partners
 mod Settling
 mod Takings
 mod Turns

@@ -18,7 +18,7 @@ use cluster_levels::Levels;
 use cluster_members::ClusterMembers;
 use cluster_merge::plan;
 use journal::Delivered;
-use projected_stamp::{Stamp, Stamps};
+use projected_stamp::{NewStamp, Stamps};
 use std::alloc::{AllocError, Global};
 use std::marker::Model;
 use vector_flight::Flight;
@@ -166,7 +166,7 @@ impl Deliverer {
         let levels = self.stamped.levels();
         let merge = plan_with(levels, id.trace, mate);
         let cluster = cluster_after(alloc, levels, &self.members, id.trace, merge)?;
-        let stamp = Stamp::new(alloc, cluster.level, &cluster.members, ahead.vector())?;
+        let stamp = NewStamp::new(cluster.level, &cluster.members, ahead.vector())?;
         self.stamped.reserve(id.trace)?;
         self.stamped.deliver_one(id, merge, stamp);
         self.flight.keep(ahead);
@@ -207,8 +207,8 @@ impl Deliverer {
         let levels = self.stamped.levels();
         let merge = plan(levels, first.trace, second.trace);
         let cluster = cluster_after(alloc, levels, &self.members, first.trace, Some(merge))?;
-        let stamp = Stamp::new(alloc, cluster.level, &cluster.members, ahead.vector())?;
-        let other = Stamp::new(alloc, cluster.level, &cluster.members, ahead.vector())?;
+        let stamp = NewStamp::new(cluster.level, &cluster.members, ahead.vector())?;
+        let other = stamp.share()?;
         self.stamped.reserve(first.trace)?;
         self.stamped.reserve(second.trace)?;
         self.stamped.deliver_two(first, second, merge, stamp, other);

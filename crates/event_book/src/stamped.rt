@@ -22,7 +22,7 @@ use cluster_levels::Levels;
 use cluster_merge::Merge;
 use delivery::Delivery;
 use journal::{Delivered, Journal};
-use projected_stamp::{Stamp, Stamps};
+use projected_stamp::{NewStamp, Stamps};
 use std::alloc::{AllocError, Global};
 use std::marker::Model;
 use std::sync::ledger::Ledger;
@@ -209,7 +209,7 @@ impl Stamped {
 
     /// Delivers the event with this id, which is Next, with the merge of its communication, if any,
     /// and its stamp. It takes no memory.
-    pub(crate) fn deliver_one(&mut self, id: EventId, merge: Option<Merge>, stamp: Stamp)
+    pub(crate) fn deliver_one(&mut self, id: EventId, merge: Option<Merge>, stamp: NewStamp<'_>)
         requires next { IsNext self.old.types (reverse self.old.journal) (One id) }
         requires merge { (e : Event) → event_of (came_by self.old.journal) id ≡ Some e
             → IsMergeOf self.old.levels (alone e) merge }
@@ -230,14 +230,14 @@ impl Stamped {
     }
 
     /// Delivers the partners with these ids, which are Next, with the merge of their communication
-    /// and their stamps. It takes no memory.
+    /// and their stamps, which are equal. It takes no memory.
     pub(crate) fn deliver_two(
         &mut self,
         first: EventId,
         second: EventId,
         merge: Merge,
-        first_stamp: Stamp,
-        second_stamp: Stamp,
+        first_stamp: NewStamp<'_>,
+        second_stamp: NewStamp<'_>,
     )
         requires next { IsNext self.old.types (reverse self.old.journal) (Two first second) }
         requires merge { (a b : Event) → event_of (came_by self.old.journal) first ≡ Some a
@@ -249,6 +249,7 @@ impl Stamped {
             (together a b ∷ deliveries_by self.old.journal) a first_stamp
             × IsStamp self.old.types (clustering_of self.old.levels)
             (together a b ∷ deliveries_by self.old.journal) b second_stamp }
+        requires same { second_stamp ≡ first_stamp }
         requires first_room { 1 ≤ slice_index self.old.stamps.spare first.trace }
         requires second_room { 2 ≤ slice_index self.old.stamps.spare second.trace }
         ensures types { self.new.types ≡ self.old.types }
@@ -260,8 +261,8 @@ impl Stamped {
         self.delivery.deliver_block(Block::Two(first, second));
         merge_clusters(&mut self.levels, Some(merge));
         self.full += full_of(&self.levels, &first_stamp) + full_of(&self.levels, &second_stamp);
-        self.stamps.add(first, first_stamp);
-        self.stamps.add(second, second_stamp);
+        self.stamps
+            .add_two(first, second, first_stamp, second_stamp);
     }
 }
 
@@ -317,7 +318,7 @@ impl Causal for Stamped {
 }
 
 /// 1 for a stamp of the level above those that have a size, and else 0.
-fn full_of(levels: &Levels, stamp: &Stamp) -> u32
+fn full_of(levels: &Levels, stamp: &NewStamp<'_>) -> u32
     ensures { result ≡ count_by (λ s. s.level == levels_of (clustering_of levels.now) + 1)
         (stamp.now ∷ []) }
 {

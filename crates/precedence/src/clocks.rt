@@ -40,7 +40,7 @@ pub fn clock<L: Ledger>(
         stamps,
         wanted: Wanted::All,
     };
-    walk.take_in(stamp, id.trace, into, steps);
+    walk.take_in(&stamp, id.trace, into, steps);
     true
 }
 
@@ -72,6 +72,6 @@ pub fn component<L: Ledger>(
         stamps,
         wanted: Wanted::One(trace),
     };
-    walk.take_in(stamp, id.trace, &mut numbers, steps);
+    walk.take_in(&stamp, id.trace, &mut numbers, steps);
     Some(number_at(&numbers, trace))
 }

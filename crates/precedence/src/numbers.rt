@@ -16,7 +16,7 @@ pub(crate) fn number_at(numbers: &[u32], trace: u32) -> u32
 }
 
 /// Raises the numbers to those of a stamp.
-pub(crate) fn raise_parts(numbers: &mut [u32], stamp: &Stamp)
+pub(crate) fn raise_parts(numbers: &mut [u32], stamp: &Stamp<'_>)
     ensures { RaisesParts stamp.now numbers.old numbers.new }
 {
     for place in 0..stamp.members().len() {

@@ -50,11 +50,11 @@ pub fn part(stamps: &Stamps, id: EventId, trace: u32) -> Option<u32>
 
 /// The stamp of the event with this id, if there is one. The step that it takes is counted for
 /// nobody.
-fn read<L: Ledger>(stamps: &Stamps, id: EventId, blank: Blank) -> Option<&Stamp>
+fn read<L: Ledger>(stamps: &Stamps, id: EventId, blank: Blank) -> Option<Stamp<'_>>
     requires name { blank.name ≡ L.name }
     requires parts { blank.parts ≡ L.parts }
     requires some { 0 < blank.parts }
-    ensures some { IfSome result (λ stamp. IsStampAt stamps.now.lists id stamp.now) }
+    ensures some { IfSome result (λ stamp. IsStampAt stamps.now.lists id stamp) }
     ensures none { IfNone result ((stamp : ClusterTimestamp)
         → IsStampAt stamps.now.lists id stamp → ⊥) }
 {

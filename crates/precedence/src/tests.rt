@@ -11,7 +11,7 @@ use crate::{before, clock, component, relation};
 use causal_base::{
     Answer, Event, EventId, Kind, MOST_NUMBER, MOST_TRACES, Plain, Related, Steps, Text, Types,
 };
-use projected_stamp::{Members, Stamp, Stamps};
+use projected_stamp::{Members, NewStamp, Stamps};
 use std::alloc::{AllocError, Global};
 use std::marker::Brand;
 use std::sync::ledger::{Blank, Ledger};
@@ -177,7 +177,7 @@ fn add(
         return Err("no stamp that may be added".into());
     }
     let members = Members::new(alloc, members)?;
-    let stamp = Stamp::new(alloc, level, &members, clock)?;
+    let stamp = NewStamp::new(level, &members, clock)?;
     stamps.reserve(id.trace)?;
     stamps.add(id, stamp);
     Ok(())

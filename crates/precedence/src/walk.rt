@@ -38,7 +38,7 @@ impl Walk<'_> {
     #[cycle(walk)]
     pub(crate) fn take_in<L: Ledger>(
         &self,
-        stamp: &Stamp,
+        stamp: &Stamp<'_>,
         own: u32,
         into: &mut [u32],
         steps: &mut Steps<L>,
@@ -65,7 +65,7 @@ impl Walk<'_> {
     #[cycle(walk)]
     fn take_in_entries<L: Ledger>(
         &self,
-        stamp: &Stamp,
+        stamp: &Stamp<'_>,
         from: usize,
         to: usize,
         into: &mut [u32],
@@ -118,13 +118,13 @@ impl Walk<'_> {
         }
         if let Some((number, stamp)) = self.stamps.entry(trace, part, level, steps) {
             if number_at(into, trace) < number {
-                self.take_in(stamp, trace, into, steps);
+                self.take_in(&stamp, trace, into, steps);
             }
         }
     }
 
     /// Whether the stamp has the numbers that are wanted itself, of so many traces.
-    fn has_wanted(&self, stamp: &Stamp, traces: usize) -> bool
+    fn has_wanted(&self, stamp: &Stamp<'_>, traces: usize) -> bool
         ensures { IsTrue result ↔ HasWanted self.now.wanted traces stamp.now.members }
     {
         match self.wanted {

@@ -4,5 +4,9 @@ mod StampsOf
 mod Links
 mod Empties
 mod Entries
+mod Rooms
+mod Runs
+mod Projections
+mod Moves
 mod Additions
 pub mod CallerLemmas

@@ -4,7 +4,9 @@ ghost use Rattle.causal_base.specs.declared.limits.TheConstants.{MOST_NUMBER, MO
 ghost use Rattle.shared_list.specs.Traces.{list_of, with_item};
 ghost use Rattle.projected_stamp.specs.StampLists.{IsAt, IsStampAt, IsLastOf, HasNoneAbove, parts_of};
 
-use crate::above::{Kept, number_above};
+use crate::above::{Kept, keep, number_above};
+use crate::new_stamp::NewStamp;
+use crate::numbers::Numbers;
 use crate::stamp::Stamp;
 use causal_base::{EventId, Steps};
 use shared_list::TraceLists;
@@ -18,6 +20,7 @@ use std::sync::ledger::Ledger;
 #[derive(Debug, Drop)]
 pub struct Stamps {
     kept: TraceLists<Kept>,
+    numbers: Numbers,
     parts: u64,
 }
 
@@ -25,14 +28,19 @@ impl Model for Stamps {
     ghost use Rattle.std.specs.Prelude.{◌≡◌, ◌≤◌, All, length, map};
     ghost use Rattle.causal_base.specs.declared.limits.TheConstants.{MOST_TRACES};
     ghost use Rattle.projected_stamp.specs.Above.{IsKept, stamps_of};
+    ghost use Rattle.projected_stamp.specs.Runs.{spares_within};
     ghost use Rattle.projected_stamp.specs.StampLists.{StampLists, parts_of};
 
     ghost Value = { StampLists };
 
-    ghost view = { λ s. record { lists = map stamps_of s.kept.lists; spare = s.kept.spare } };
+    ghost view = { λ s. record {
+      lists = map (stamps_of s.numbers.blocks) s.kept.lists;
+      spare = spares_within s.numbers.room s.kept.spare;
+    } };
 
-    ghost invariant = { λ s. All IsKept s.kept.lists × (length s.kept.lists ≤ MOST_TRACES)
-        × (s.parts ≡ parts_of (map stamps_of s.kept.lists)) };
+    ghost invariant = { λ s. All (IsKept s.numbers.blocks) s.kept.lists
+        × (length s.kept.lists ≤ MOST_TRACES)
+        × (s.parts ≡ parts_of (map (stamps_of s.numbers.blocks) s.kept.lists)) };
 }
 
 impl Stamps {
@@ -44,6 +52,7 @@ impl Stamps {
     {
         Ok(Stamps {
             kept: TraceLists::new(alloc, traces)?,
+            numbers: Numbers::new(alloc),
             parts: 0,
         })
     }
@@ -57,21 +66,51 @@ impl Stamps {
         // The room of no trace gets less, whatever the answer.
         ensures kept { (k : ℕ) → slice_index self.old.spare k ≤ slice_index self.new.spare k }
     {
-        self.kept.reserve(trace)
+        self.kept.reserve(trace)?;
+        self.numbers.reserve()
     }
 
     /// Adds the stamp of the next event of a trace. It takes no memory.
-    pub fn add(&mut self, id: EventId, stamp: Stamp)
+    pub fn add(&mut self, id: EventId, stamp: NewStamp<'_>)
         requires trace { id.trace < length self.old.lists }
         requires room { 1 ≤ slice_index self.old.spare id.trace }
         requires next { id.number ≡ length (list_of self.old.lists id.trace) + 1 }
         requires most { id.number ≤ MOST_NUMBER }
-        ensures lists { self.new.lists ≡ with_item self.old.lists id.trace stamp }
+        ensures lists { self.new.lists ≡ with_item self.old.lists id.trace stamp.entry }
         ensures spare { (k : ℕ) → slice_index self.old.spare k ≤ slice_index self.new.spare k + 1 }
     {
-        let above = number_above(&self.kept, id.trace, id.number - 1, stamp.level());
         self.parts += u64::from(stamp.size());
-        self.kept.push(id.trace, Kept { stamp, above });
+        let run = self.numbers.add(stamp.members.traces(), stamp.clock);
+        keep(&mut self.kept, id.trace, stamp, run);
+    }
+
+    /// Adds the stamps of partners, which are equal, and share their numbers. Each is the next event
+    /// of its trace. It takes no memory.
+    pub fn add_two(
+        &mut self,
+        first: EventId,
+        second: EventId,
+        stamp: NewStamp<'_>,
+        other: NewStamp<'_>,
+    )
+        requires equal { other ≡ stamp }
+        requires first { first.trace < length self.old.lists }
+        requires room { 1 ≤ slice_index self.old.spare first.trace }
+        requires next { first.number ≡ length (list_of self.old.lists first.trace) + 1 }
+        requires most { first.number ≤ MOST_NUMBER }
+        requires second { second.trace < length self.old.lists }
+        requires second_room { 2 ≤ slice_index self.old.spare second.trace }
+        requires second_next { second.number ≡ length (list_of
+            (with_item self.old.lists first.trace stamp) second.trace) + 1 }
+        requires second_most { second.number ≤ MOST_NUMBER }
+        ensures lists { self.new.lists ≡ with_item
+            (with_item self.old.lists first.trace stamp.entry) second.trace stamp.entry }
+        ensures spare { (k : ℕ) → slice_index self.old.spare k ≤ slice_index self.new.spare k + 2 }
+    {
+        self.parts += u64::from(stamp.size()) + u64::from(other.size());
+        let run = self.numbers.add(stamp.members.traces(), stamp.clock);
+        keep(&mut self.kept, first.trace, stamp, run);
+        keep(&mut self.kept, second.trace, other, run);
     }
 
     /// How many stamps of a trace there are.
@@ -82,8 +121,8 @@ impl Stamps {
     }
 
     /// The stamp of the event with this id, if there is one. It takes one step.
-    pub fn read<L: Ledger>(&self, id: EventId, steps: &mut Steps<L>) -> Option<&Stamp>
-        ensures some { IfSome result (λ stamp. IsStampAt self.now.lists id stamp.now) }
+    pub fn read<L: Ledger>(&self, id: EventId, steps: &mut Steps<L>) -> Option<Stamp<'_>>
+        ensures some { IfSome result (λ stamp. IsStampAt self.now.lists id stamp) }
         ensures none { IfNone result ((stamp : ClusterTimestamp)
             → IsStampAt self.now.lists id stamp → ⊥) }
         ensures steps { steps.new ≡ steps.old + 1 }
@@ -100,9 +139,9 @@ impl Stamps {
         upto: u32,
         level: u8,
         steps: &mut Steps<L>,
-    ) -> Option<(u32, &Stamp)>
+    ) -> Option<(u32, Stamp<'_>)>
         ensures some { IfSome result (λ found.
-            IsLastOf (list_of self.now.lists trace) upto level found.0 found.1.now) }
+            IsLastOf (list_of self.now.lists trace) upto level found.0 found.1) }
         ensures none { IfNone result (HasNoneAbove (list_of self.now.lists trace) upto level) }
         ensures steps { steps.new ≡ steps.old + 1 }
     {
@@ -130,14 +169,15 @@ impl Stamps {
     {
         Ok(Stamps {
             kept: self.kept.share(alloc)?,
+            numbers: self.numbers.share(alloc)?,
             parts: self.parts,
         })
     }
 
     /// The stamp of this number of a trace, counted from 1, if there is one.
-    fn stamp_at(&self, trace: u32, number: u32) -> Option<&Stamp>
+    fn stamp_at(&self, trace: u32, number: u32) -> Option<Stamp<'_>>
         ensures some { IfSome result (λ stamp. IsAt (list_of self.now.lists trace) number
-            stamp.now) }
+            stamp) }
         ensures none { IfNone result ((stamp : ClusterTimestamp)
             → IsAt (list_of self.now.lists trace) number stamp → ⊥) }
     {
@@ -145,7 +185,7 @@ impl Stamps {
             return None;
         }
         match self.kept.get(trace, number - 1) {
-            Some(kept) => Some(&kept.stamp),
+            Some(kept) => Some(kept.stamp(&self.numbers)),
             None => None,
         }
     }

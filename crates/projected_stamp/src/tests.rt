@@ -4,7 +4,7 @@
 ghost use Rattle.std.specs.Prelude.{◌≡◌, ◌<◌, length};
 ghost use Rattle.projected_stamp.specs.declared.tests.TheConstants.{TRACE};
 
-use crate::{Members, Stamp, Stamps};
+use crate::{Members, NewStamp, Stamp, Stamps};
 use causal_base::{EventId, MOST_NUMBER, Steps};
 use std::alloc::Global;
 use std::marker::Brand;
@@ -50,19 +50,32 @@ fn add_next(alloc: Global, stamps: &mut Stamps, level: u8) -> Result<(), Fail>
     }
     let number = before + 1;
     let own = Members::new(alloc, &[TRACE])?;
-    let stamp = Stamp::new(alloc, level, &own, &[NO_MEMBER, NO_MEMBER, number])?;
-    if stamp.part(0).is_some() || stamp.part(TRACE) != Some(number) {
-        return Err("a stamp keeps other numbers".into());
-    }
+    let clock = [NO_MEMBER, NO_MEMBER, number];
+    let stamp = NewStamp::new(level, &own, &clock)?;
+    let id = EventId {
+        trace: TRACE,
+        number,
+    };
     stamps.reserve(TRACE)?;
-    stamps.add(
-        EventId {
-            trace: TRACE,
-            number,
-        },
-        stamp,
-    );
-    Ok(())
+    stamps.add(id, stamp);
+    if keeps_own_number::<Brand>(stamps, id, Blank::new(1)) {
+        Ok(())
+    } else {
+        Err("a stamp keeps other numbers".into())
+    }
+}
+
+/// Whether the stamp of an event has its own number for its trace, and none for others.
+fn keeps_own_number<L: Ledger>(stamps: &Stamps, id: EventId, blank: Blank) -> bool
+    requires name { blank.name ≡ L.name }
+    requires parts { blank.parts ≡ L.parts }
+    requires some { 0 < blank.parts }
+{
+    let mut steps = Steps::<L>::new(blank);
+    match stamps.read(id, &mut steps) {
+        Some(stamp) => stamp.part(0).is_none() && stamp.part(id.trace) == Some(id.number),
+        None => false,
+    }
 }
 
 /// The last event above level 1 up to the numbers 1, 3 and 4, and above level 2.
@@ -80,7 +93,7 @@ fn entries<L: Ledger>(stamps: &Stamps, blank: Blank) -> [Option<u32>; 4]
     ]
 }
 
-fn number_of(found: Option<(u32, &Stamp)>) -> Option<u32> {
+fn number_of(found: Option<(u32, Stamp<'_>)>) -> Option<u32> {
     let (number, _) = found?;
     Some(number)
 }

@@ -15,10 +15,10 @@ returns-clause-delivered g c w are trace below =
     let all : numbers ≡ replicate (length c.args.into.now) 0 = c.fill.ensures.after (λ y is. is) in
     let begin : AreZeros numbers = subst AreZeros (sym all) (zeros (length c.args.into.now)) in
     let over : IsOver w c.args.stamps.now.lists All numbers = record { stamps = are; wide = c.fill.ensures.len ∙ c.requires ∙ are.traces } in
-    clock_is w (c.laws.ensures w) c.args.stamps.now.lists are c.args.id c.in-Some.stamp.now c.in-Some.ensures.some All numbers c.take_in.new.into begin (c.take_in.ensures.taken w over) trace below
+    clock_is w (c.laws.ensures w) c.args.stamps.now.lists are c.args.id c.in-Some.stamp c.in-Some.ensures.some All numbers c.take_in.new.into begin (c.take_in.ensures.taken w over) trace below
 
 pub returns-clause-steps : goal.returns-clause-steps
 returns-clause-steps g c w are =
     let over : IsOver w c.args.stamps.now.lists All c.fill.new.self = record { stamps = are; wide = c.fill.ensures.len ∙ c.requires ∙ are.traces } in
-    steps_are w (c.laws.ensures w) c.args.stamps.now.lists are c.args.id c.in-Some.stamp.now c.in-Some.ensures.some c.args.steps.now c.take_in.new.steps
+    steps_are w (c.laws.ensures w) c.args.stamps.now.lists are c.args.id c.in-Some.stamp c.in-Some.ensures.some c.args.steps.now c.take_in.new.steps
     (λ e is. let walked = c.take_in.ensures.steps w over e is in omega (arith, walked, c.read.ensures.steps))

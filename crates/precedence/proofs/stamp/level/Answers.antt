@@ -7,7 +7,7 @@ use Rattle.precedence.proofs.stamp.level.Goals as goal
 
 pub returns-in-Some-clause-some : goal.returns-in-Some-clause-some
 returns-in-Some-clause-some c w are =
-    let e = event_of_stamp w c.args.stamps.now.lists are c.args.id c.in-Some.stamp.now c.in-Some.ensures.some in
+    let e = event_of_stamp w c.args.stamps.now.lists are c.args.id c.in-Some.stamp c.in-Some.ensures.some in
     ((e.0, e.1, e.2), c.level.ensures ∙ (e.3.level ∙ ap (λ (i : EventId). level_of w.clustering (deliveries_by w.journal) i) e.2))
 
 pub returns-in-None-clause-none : goal.returns-in-None-clause-none

@@ -4,8 +4,7 @@ use Rattle.std.specs.Option.{option_map}
 use Rattle.causal_base.specs.declared.block.Block.TheVariants.{Two}
 use Rattle.causal_base.specs.declared.entry.Entry.TheVariants.{Pair}
 use Rattle.causal_base.specs.declared.event.Event.{Event}
-use Rattle.causal_base.specs.declared.event_id.EventId.{EventId}
-use Rattle.causal_base.specs.Clusters.{Clustering, communications, partition, traces_joined}
+use Rattle.causal_base.specs.Clusters.{Clustering, communications, partition}
 use Rattle.causal_base.specs.Event.{IsFit}
 use Rattle.causal_base.specs.Clocks.{HasClocks}
 use Rattle.causal_base.specs.History.{together, all_events, IsCausal}
@@ -21,8 +20,9 @@ use Rattle.vector_flight.specs.Flights.{IsAheadOf, IsFlightOf}
 use Rattle.event_book.specs.Delivering.{AreAtHand}
 use Rattle.event_book.specs.Stamping.{IsMergeOf, StampedState, traces_of, with_merge}
 use Rattle.event_book.proofs.Blocks.{two_found}
-use Rattle.event_book.proofs.Going.{causal_two, on_first, on_second}
-use Rattle.event_book.proofs.AtHand.{cluster_within, delivers_first, delivers_second, flight_later, found_is, kept_later, members_later, planned_stamp}
+use Rattle.event_book.proofs.Going.{on_first, on_second}
+use Rattle.event_book.proofs.AtHand.{cluster_within, flight_later, kept_later, members_later}
+use Rattle.event_book.proofs.Partners.{causal_both, found_first, found_second, is_both, joins_both, stamp_first, stamp_second}
 use Rattle.event_book.proofs.deliverer.Deliverer.deliver_two.Goals as goal
 
 pub unreachable-requires : goal.unreachable-requires
@@ -109,23 +109,6 @@ invariant_of-self-in_err-stamp c =
       in_flight = c.ahead.ensures.meaning c.self.inside.stamped.types (deliveries_by c.self.inside.stamped.journal) c.self.invariant.in_flight;
     }
 
-pub new-requires-2 : goal.new-requires-2
-new-requires-2 c k d inside =
-    let s = c.self.inside.stamped in
-    let is = c.types.ensures.stamped in
-    let so_far = communications (deliveries_by s.journal) in
-    let levels_are = c.levels-levels.ensures.levels in
-    let stands = subst (λ (l : ClusterLevels). StandsAfter l so_far) (sym levels_are) is.stands in
-    let members_are = c.in_ok-cluster.ensures.members so_far stands in
-    let below = subst (λ (l : List ℕ). All (λ t. t < (clustering_of c.levels-levels.result.now).traces) l) (sym members_are)
-    (cluster_within (clustering_of c.levels-levels.result.now) (with_merge (Some c.plan-merge.result) so_far) c.in_ok-cluster.cluster.level c.args.first.trace) k d inside in
-    let many = ap (λ (l : ClusterLevels). l.traces) levels_are in
-    let traces = is.traces in
-    let flight = (c.ahead.ensures.meaning s.types (deliveries_by s.journal) c.self.invariant.in_flight).traces in
-    let as_many = c.in_ok-ahead.ensures.of_traces.as_many in
-    let long = ap (λ (l : List ℕ). length l) c.vector-2.ensures in
-    omega (arith, below, many, traces, flight, as_many, long)
-
 pub invariant_of-self-in_err-other : goal.invariant_of-self-in_err-other
 invariant_of-self-in_err-other c =
     record {
@@ -180,19 +163,13 @@ deliver_two-requires-clause-merge c =
     let b = c.in-Some-accepted_event.partner.now in
     let has_a = c.in-Some.ensures.some in
     let has_b = c.in-Some-accepted_event.ensures.some in
-    let the = two_found s.types s.journal c.args.first c.args.second next in
-    let is_a = found_is s.types s.journal is.legal c.args.first the.0 a the.2 has_a.0 has_a.1 in
-    let is_b = found_is s.types s.journal is.legal c.args.second the.1 b the.3 has_b.0 has_b.1 in
-    let joins : traces_joined (together a b) ≡ option_map traces_of (Some m) =
-    ap (λ (i : EventId). Some (i.trace, b.id.trace)) has_a.1
-    ∙ (ap (λ (i : EventId). Some (c.args.first.trace, i.trace)) has_b.1
-    ∙ sym (ap (λ (n : ℕ). Some (n, m.q)) c.plan-merge.ensures.traces.0 ∙ ap (λ (n : ℕ). Some (c.args.first.trace, n)) c.plan-merge.ensures.traces.1)) in
+    let joins = joins_both s is c.args.first c.args.second next a b has_a has_b m c.plan-merge.ensures.traces.0 c.plan-merge.ensures.traces.1 in
     let same2 : c.reserve-2.new.self ≡ record s { stamps = c.reserve-2.new.self.stamps } =
     c.reserve-2.ensures.same ∙ ap (λ (v : StampedState). let w : StampedState = record v { stamps = c.reserve-2.new.self.stamps } in w) c.reserve.ensures.same in
     subst (λ (v : StampedState). (x y : Event) → event_of (came_by v.journal) c.args.first ≡ Some x → event_of (came_by v.journal) c.args.second ≡ Some y → IsMergeOf v.levels (together x y) (Some m)) (sym same2)
     (λ x y found other.
-    let same_x = found_is s.types s.journal is.legal c.args.first x a found has_a.0 has_a.1 in
-    let same_y = found_is s.types s.journal is.legal c.args.second y b other has_b.0 has_b.1 in
+    let same_x = found_first s is c.args.first c.args.second next a b has_a has_b x found in
+    let same_y = found_second s is c.args.first c.args.second next a b has_a has_b y other in
     subst (λ (e : Event). IsMergeOf s.levels (together e y) (Some m)) same_x (subst (λ (e : Event). IsMergeOf s.levels (together a e) (Some m)) same_y (record {
       joins = joins;
       planned = subst (λ (l : ClusterLevels). IsPlanned l m) c.levels-levels.ensures.levels c.plan-merge.ensures.planned;
@@ -211,15 +188,9 @@ deliver_two-requires-clause-stamps c =
     let b = c.in-Some-accepted_event.partner.now in
     let has_a = c.in-Some.ensures.some in
     let has_b = c.in-Some-accepted_event.ensures.some in
-    let the = two_found s.types s.journal c.args.first c.args.second next in
-    let is_a = found_is s.types s.journal is.legal c.args.first the.0 a the.2 has_a.0 has_a.1 in
-    let is_b = found_is s.types s.journal is.legal c.args.second the.1 b the.3 has_b.0 has_b.1 in
-    let joins : traces_joined (together a b) ≡ option_map traces_of (Some m) =
-    ap (λ (i : EventId). Some (i.trace, b.id.trace)) has_a.1
-    ∙ (ap (λ (i : EventId). Some (c.args.first.trace, i.trace)) has_b.1
-    ∙ sym (ap (λ (n : ℕ). Some (n, m.q)) c.plan-merge.ensures.traces.0 ∙ ap (λ (n : ℕ). Some (c.args.first.trace, n)) c.plan-merge.ensures.traces.1)) in
+    let joins = joins_both s is c.args.first c.args.second next a b has_a has_b m c.plan-merge.ensures.traces.0 c.plan-merge.ensures.traces.1 in
     let ds = deliveries_by s.journal in
-    let causal = subst (λ (x : Event). IsCausal s.types (together x b ∷ ds)) (sym is_a) (subst (λ (x : Event). IsCausal s.types (together the.0 x ∷ ds)) (sym is_b) (causal_two s is c.args.first c.args.second next)) in
+    let causal = causal_both s is c.args.first c.args.second next a b has_a has_b in
     let ahead = subst (λ (t : TypeTable). IsAheadOf t ds (together a b) c.in_ok-ahead.ahead) c.types.ensures.types
     (c.in_ok-ahead.ensures.ahead s.journal (record { same = refl; legal = is.legal }) (subst (λ (t : TypeTable). IsFlightOf t ds c.self.inside.flight) (sym c.types.ensures.types) c.self.invariant.in_flight)
     (subst (λ (t : TypeTable). IsCausal t (together a b ∷ ds)) (sym c.types.ensures.types) causal)) in
@@ -231,24 +202,24 @@ deliver_two-requires-clause-stamps c =
     let level_is = subst (λ (l : ClusterLevels). level ≡ joined_level (clustering_of l) (partition (clustering_of l) (with_merge (Some m) so_far)) (option_map traces_of (Some m))) levels_are (c.in_ok-cluster.ensures.level so_far stands) in
     let members_are = subst (λ (l : ClusterLevels). members ≡ cluster_of (clustering_of l) (with_merge (Some m) so_far) level c.args.first.trace) levels_are (c.in_ok-cluster.ensures.members so_far stands) in
     let others_are = subst (λ (l : ClusterLevels). members ≡ cluster_of (clustering_of l) (with_merge (Some m) so_far) level m.q) levels_are (c.in_ok-cluster.ensures.second so_far stands) in
-    let in_a = Contains-there b (a ∷ []) a (Contains-here a []) in
-    let in_b = Contains-here b (a ∷ []) in
-    let its_a = planned_stamp s is (together a b) (Some m) joins causal a in_a (delivers_first a b) level members c.vector.result.now
-    level_is (members_are ∙ ap (λ (i : EventId). cluster_of cl (with_merge (Some m) so_far) level i.trace) (sym has_a.1))
-    (subst (λ (l : List ℕ). HasClocks s.types (all_events (together a b ∷ ds)) a.id l) (sym c.vector.ensures) (ahead.clock_is a in_a)) in
-    let its_b = planned_stamp s is (together a b) (Some m) joins causal b in_b (delivers_second a b) level members c.vector-2.result.now
-    level_is (others_are ∙ (ap (λ (n : ℕ). cluster_of cl (with_merge (Some m) so_far) level n) c.plan-merge.ensures.traces.1 ∙ ap (λ (i : EventId). cluster_of cl (with_merge (Some m) so_far) level i.trace) (sym has_b.1)))
-    (subst (λ (l : List ℕ). HasClocks s.types (all_events (together a b ∷ ds)) b.id l) (sym c.vector-2.ensures) (ahead.clock_is b in_b)) in
+    let clock = c.vector.result.now in
+    let its_a = stamp_first s is c.args.first c.args.second next a b has_a has_b m c.plan-merge.ensures.traces.0 c.plan-merge.ensures.traces.1 level members clock level_is members_are
+    (subst (λ (l : List ℕ). HasClocks s.types (all_events (together a b ∷ ds)) a.id l) (sym c.vector.ensures) (ahead.clock_is a (Contains-there b (a ∷ []) a (Contains-here a [])))) in
+    let its_b = stamp_second s is c.args.first c.args.second next a b has_a has_b m c.plan-merge.ensures.traces.0 c.plan-merge.ensures.traces.1 level members clock level_is others_are
+    (subst (λ (l : List ℕ). HasClocks s.types (all_events (together a b ∷ ds)) b.id l) (sym c.vector.ensures) (ahead.clock_is b (Contains-here b (a ∷ [])))) in
     subst (λ (v : StampedState). (x y : Event) → event_of (came_by v.journal) c.args.first ≡ Some x → event_of (came_by v.journal) c.args.second ≡ Some y
     → IsStamp v.types (clustering_of v.levels) (together x y ∷ deliveries_by v.journal) x c.in_ok-stamp.stamp × IsStamp v.types (clustering_of v.levels) (together x y ∷ deliveries_by v.journal) y c.in_ok-other.other) (sym same2)
     (λ x y found other.
-    let same_x = found_is s.types s.journal is.legal c.args.first x a found has_a.0 has_a.1 in
-    let same_y = found_is s.types s.journal is.legal c.args.second y b other has_b.0 has_b.1 in
+    let same_x = found_first s is c.args.first c.args.second next a b has_a has_b x found in
+    let same_y = found_second s is c.args.first c.args.second next a b has_a has_b y other in
     subst (λ (e : Event). IsStamp s.types cl (together e y ∷ ds) e c.in_ok-stamp.stamp × IsStamp s.types cl (together e y ∷ ds) y c.in_ok-other.other) same_x
     (subst (λ (e : Event). IsStamp s.types cl (together a e ∷ ds) a c.in_ok-stamp.stamp × IsStamp s.types cl (together a e ∷ ds) e c.in_ok-other.other) same_y (
       subst (λ (t : ClusterTimestamp). IsStamp s.types cl (together a b ∷ ds) a t) (sym c.in_ok-stamp.ensures) its_a,
-      subst (λ (t : ClusterTimestamp). IsStamp s.types cl (together a b ∷ ds) b t) (sym c.in_ok-other.ensures) its_b,
+      subst (λ (t : ClusterTimestamp). IsStamp s.types cl (together a b ∷ ds) b t) (sym (c.in_ok-other.ensures ∙ c.in_ok-stamp.ensures)) its_b,
     )))
+
+pub deliver_two-requires-clause-same : goal.deliver_two-requires-clause-same
+deliver_two-requires-clause-same c = c.in_ok-other.ensures
 
 pub keep-requires-2-clause-kept : goal.keep-requires-2-clause-kept
 keep-requires-2-clause-kept c =
@@ -263,20 +234,14 @@ keep-requires-2-clause-kept c =
     let b = c.in-Some-accepted_event.partner.now in
     let has_a = c.in-Some.ensures.some in
     let has_b = c.in-Some-accepted_event.ensures.some in
-    let the = two_found s.types s.journal c.args.first c.args.second next in
-    let is_a = found_is s.types s.journal is.legal c.args.first the.0 a the.2 has_a.0 has_a.1 in
-    let is_b = found_is s.types s.journal is.legal c.args.second the.1 b the.3 has_b.0 has_b.1 in
-    let joins : traces_joined (together a b) ≡ option_map traces_of (Some m) =
-    ap (λ (i : EventId). Some (i.trace, b.id.trace)) has_a.1
-    ∙ (ap (λ (i : EventId). Some (c.args.first.trace, i.trace)) has_b.1
-    ∙ sym (ap (λ (n : ℕ). Some (n, m.q)) c.plan-merge.ensures.traces.0 ∙ ap (λ (n : ℕ). Some (c.args.first.trace, n)) c.plan-merge.ensures.traces.1)) in
+    let joins = joins_both s is c.args.first c.args.second next a b has_a has_b m c.plan-merge.ensures.traces.0 c.plan-merge.ensures.traces.1 in
     let same2 : c.reserve-2.new.self ≡ record s { stamps = c.reserve-2.new.self.stamps } =
     c.reserve-2.ensures.same ∙ ap (λ (v : StampedState). let w : StampedState = record v { stamps = c.reserve-2.new.self.stamps } in w) c.reserve.ensures.same in
     let later = c.deliver_two.new.self in
     let journal_is = c.deliver_two.ensures.journal ∙ ap (λ (v : StampedState). v.journal ++ Pair c.args.first c.args.second ∷ []) same2 in
     let clustering_is = c.deliver_two.ensures.clustering ∙ ap (λ (v : StampedState). clustering_of v.levels) same2 in
     let types_are = c.deliver_two.ensures.types ∙ ap (λ (v : StampedState). v.types) same2 in
-    let is_d = the.4 ∙ (ap (λ (x : Event). together x the.1) (sym is_a) ∙ ap (λ (x : Event). together a x) (sym is_b)) in
+    let is_d = is_both s is c.args.first c.args.second next a b has_a has_b in
     let level = c.in_ok-cluster.cluster.level in
     let members = c.in_ok-cluster.cluster.members in
     let members_are = subst (λ (l : ClusterLevels). members ≡ cluster_of (clustering_of l) (with_merge (Some m) so_far) level c.args.first.trace) levels_are (c.in_ok-cluster.ensures.members so_far stands) in
@@ -310,15 +275,9 @@ invariant_of-self-2 c =
     let b = c.in-Some-accepted_event.partner.now in
     let has_a = c.in-Some.ensures.some in
     let has_b = c.in-Some-accepted_event.ensures.some in
-    let the = two_found s.types s.journal c.args.first c.args.second next in
-    let is_a = found_is s.types s.journal is.legal c.args.first the.0 a the.2 has_a.0 has_a.1 in
-    let is_b = found_is s.types s.journal is.legal c.args.second the.1 b the.3 has_b.0 has_b.1 in
-    let joins : traces_joined (together a b) ≡ option_map traces_of (Some m) =
-    ap (λ (i : EventId). Some (i.trace, b.id.trace)) has_a.1
-    ∙ (ap (λ (i : EventId). Some (c.args.first.trace, i.trace)) has_b.1
-    ∙ sym (ap (λ (n : ℕ). Some (n, m.q)) c.plan-merge.ensures.traces.0 ∙ ap (λ (n : ℕ). Some (c.args.first.trace, n)) c.plan-merge.ensures.traces.1)) in
+    let joins = joins_both s is c.args.first c.args.second next a b has_a has_b m c.plan-merge.ensures.traces.0 c.plan-merge.ensures.traces.1 in
     let ds = deliveries_by s.journal in
-    let causal = subst (λ (x : Event). IsCausal s.types (together x b ∷ ds)) (sym is_a) (subst (λ (x : Event). IsCausal s.types (together the.0 x ∷ ds)) (sym is_b) (causal_two s is c.args.first c.args.second next)) in
+    let causal = causal_both s is c.args.first c.args.second next a b has_a has_b in
     let ahead = subst (λ (t : TypeTable). IsAheadOf t ds (together a b) c.in_ok-ahead.ahead) c.types.ensures.types
     (c.in_ok-ahead.ensures.ahead s.journal (record { same = refl; legal = is.legal }) (subst (λ (t : TypeTable). IsFlightOf t ds c.self.inside.flight) (sym c.types.ensures.types) c.self.invariant.in_flight)
     (subst (λ (t : TypeTable). IsCausal t (together a b ∷ ds)) (sym c.types.ensures.types) causal)) in
@@ -328,7 +287,7 @@ invariant_of-self-2 c =
     let journal_is = c.deliver_two.ensures.journal ∙ ap (λ (v : StampedState). v.journal ++ Pair c.args.first c.args.second ∷ []) same2 in
     let clustering_is = c.deliver_two.ensures.clustering ∙ ap (λ (v : StampedState). clustering_of v.levels) same2 in
     let types_are = c.deliver_two.ensures.types ∙ ap (λ (v : StampedState). v.types) same2 in
-    let is_d = the.4 ∙ (ap (λ (x : Event). together x the.1) (sym is_a) ∙ ap (λ (x : Event). together a x) (sym is_b)) in
+    let is_d = is_both s is c.args.first c.args.second next a b has_a has_b in
     let flight = c.keep.ensures.stands s.types ds (together a b) (c.ahead.ensures.meaning s.types ds c.self.invariant.in_flight) ahead in
     let kept = kept_later s is (together a b) (Some m) joins (Two c.args.first c.args.second) next is_d later journal_is clustering_is c.self.inside.members c.self.invariant.kept in
     record {

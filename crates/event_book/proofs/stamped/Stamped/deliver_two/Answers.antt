@@ -1,4 +1,4 @@
-use Rattle.std.proofs.Common.{◌≡◌, ◌+◌, List, [], ◌∷◌, ◌++◌, length, reverse, sym, ◌∙◌, ap, subst, arith, Some}
+use Rattle.std.proofs.Common.{◌≡◌, ◌+◌, [], ◌∷◌, ◌++◌, reverse, sym, ◌∙◌, ap, subst, arith, Some}
 use Rattle.std.specs.Prelude.{◌==◌, count_by}
 use Rattle.std.proofs.lemmas.List.Sums.{count_by-le-length}
 use Rattle.causal_base.specs.declared.block.Block.TheVariants.{Two}
@@ -12,8 +12,7 @@ use Rattle.causal_base.specs.Stamps.{ClusterTimestamp, IsStamp}
 use Rattle.cluster_levels.specs.Levels.{StandsAfter, clustering_of}
 use Rattle.delivery.specs.Deliveries.{TypedJournal}
 use Rattle.event_book.specs.Stamping.{IsMergeOf, IsStamped, StampedState}
-use Rattle.shared_list.proofs.CallerLemmas.{length-with_item}
-use Rattle.shared_list.specs.Traces.{list_of, with_item}
+use Rattle.shared_list.specs.Traces.{with_item}
 use Rattle.event_book.proofs.Blocks.{two_found}
 use Rattle.event_book.proofs.Going.{communications_with, full_few, most_first, most_second, number_first, number_second, on_first, on_second, stamped_two}
 use Rattle.event_book.proofs.stamped.Stamped.deliver_two.Goals as goal
@@ -51,44 +50,42 @@ overflow_add-self-2 c =
     let other = c.full_of-2.ensures in
     omega (arith, few, counted, also, is, other)
 
-pub add-requires-clause-trace : goal.add-requires-clause-trace
-add-requires-clause-trace c =
+pub add_two-requires-clause-first : goal.add_two-requires-clause-first
+add_two-requires-clause-first c =
     let s : StampedState = record { types = c.self.inside.delivery.types; journal = c.self.inside.delivery.journal; levels = c.self.inside.levels; stamps = c.self.inside.stamps; full = c.self.inside.full } in
     let next = subst (λ (v : StampedState). IsNext v.types (reverse v.journal) (Two c.args.first c.args.second)) (sym c.self.view_is) c.requires.next in
     let on = on_first s c.self.invariant c.args.first c.args.second next in
     let traces = c.self.invariant.has_stamps.traces in
     omega (arith, on, traces)
 
-pub add-requires-clause-next : goal.add-requires-clause-next
-add-requires-clause-next c =
+pub add_two-requires-clause-next : goal.add_two-requires-clause-next
+add_two-requires-clause-next c =
     let s : StampedState = record { types = c.self.inside.delivery.types; journal = c.self.inside.delivery.journal; levels = c.self.inside.levels; stamps = c.self.inside.stamps; full = c.self.inside.full } in
     let next = subst (λ (v : StampedState). IsNext v.types (reverse v.journal) (Two c.args.first c.args.second)) (sym c.self.view_is) c.requires.next in
     number_first s c.self.invariant c.args.first c.args.second next
 
-pub add-requires-clause-most : goal.add-requires-clause-most
-add-requires-clause-most c =
+pub add_two-requires-clause-most : goal.add_two-requires-clause-most
+add_two-requires-clause-most c =
     let s : StampedState = record { types = c.self.inside.delivery.types; journal = c.self.inside.delivery.journal; levels = c.self.inside.levels; stamps = c.self.inside.stamps; full = c.self.inside.full } in
     let next = subst (λ (v : StampedState). IsNext v.types (reverse v.journal) (Two c.args.first c.args.second)) (sym c.self.view_is) c.requires.next in
     most_first s c.self.invariant c.args.first c.args.second next
 
-pub add-requires-2-clause-trace : goal.add-requires-2-clause-trace
-add-requires-2-clause-trace c =
+pub add_two-requires-clause-second : goal.add_two-requires-clause-second
+add_two-requires-clause-second c =
     let s : StampedState = record { types = c.self.inside.delivery.types; journal = c.self.inside.delivery.journal; levels = c.self.inside.levels; stamps = c.self.inside.stamps; full = c.self.inside.full } in
     let next = subst (λ (v : StampedState). IsNext v.types (reverse v.journal) (Two c.args.first c.args.second)) (sym c.self.view_is) c.requires.next in
     let on = on_second s c.self.invariant c.args.first c.args.second next in
     let traces = c.self.invariant.has_stamps.traces in
-    let more = ap (λ (l : List (List ClusterTimestamp)). length l) c.add.ensures.lists ∙ length-with_item c.self.inside.stamps.lists c.args.first.trace c.args.first_stamp in
-    omega (arith, on, traces, more)
+    omega (arith, on, traces)
 
-pub add-requires-2-clause-next : goal.add-requires-2-clause-next
-add-requires-2-clause-next c =
+pub add_two-requires-clause-second_next : goal.add_two-requires-clause-second_next
+add_two-requires-clause-second_next c =
     let s : StampedState = record { types = c.self.inside.delivery.types; journal = c.self.inside.delivery.journal; levels = c.self.inside.levels; stamps = c.self.inside.stamps; full = c.self.inside.full } in
     let next = subst (λ (v : StampedState). IsNext v.types (reverse v.journal) (Two c.args.first c.args.second)) (sym c.self.view_is) c.requires.next in
     number_second s c.self.invariant c.args.first c.args.second next c.args.first_stamp
-    ∙ ap (λ (l : List (List ClusterTimestamp)). length (list_of l c.args.second.trace) + 1) (sym c.add.ensures.lists)
 
-pub add-requires-2-clause-most : goal.add-requires-2-clause-most
-add-requires-2-clause-most c =
+pub add_two-requires-clause-second_most : goal.add_two-requires-clause-second_most
+add_two-requires-clause-second_most c =
     let s : StampedState = record { types = c.self.inside.delivery.types; journal = c.self.inside.delivery.journal; levels = c.self.inside.levels; stamps = c.self.inside.stamps; full = c.self.inside.full } in
     let next = subst (λ (v : StampedState). IsNext v.types (reverse v.journal) (Two c.args.first c.args.second)) (sym c.self.view_is) c.requires.next in
     most_second s c.self.invariant c.args.first c.args.second next
@@ -107,14 +104,14 @@ invariant_of-self c =
     λ stamp. ap (λ (cl : Clustering). count_by (λ (x : ClusterTimestamp). x.level == levels_of cl + 1) (stamp ∷ [])) c.merge_clusters.ensures.made_with in
     let one = c.full_of.ensures ∙ counted c.args.first_stamp in
     let other = c.full_of-2.ensures ∙ counted c.args.second_stamp in
-    subst (λ (d : TypedJournal). IsStamped (record { types = d.types; journal = d.journal; levels = c.merge_clusters.new.levels; stamps = c.add-2.new.self; full = c.self.inside.full + (c.full_of.result + c.full_of-2.result) })) (sym is)
-    (stamped_two s c.self.invariant c.args.first c.args.second next c.stamp_stays.ensures c.merge_clusters.new.levels c.add-2.new.self (c.self.inside.full + (c.full_of.result + c.full_of-2.result)) c.args.first_stamp c.args.second_stamp
+    subst (λ (d : TypedJournal). IsStamped (record { types = d.types; journal = d.journal; levels = c.merge_clusters.new.levels; stamps = c.add_two.new.self; full = c.self.inside.full + (c.full_of.result + c.full_of-2.result) })) (sym is)
+    (stamped_two s c.self.invariant c.args.first c.args.second next c.stamp_stays.ensures c.merge_clusters.new.levels c.add_two.new.self (c.self.inside.full + (c.full_of.result + c.full_of-2.result)) c.args.first_stamp c.args.second_stamp
     c.merge_clusters.ensures.made_with
     (subst (StandsAfter c.merge_clusters.new.levels) (communications_with (together found.0 found.1) (deliveries_by s.journal) (Some c.args.merge) merges.joins)
     (c.merge_clusters.ensures.stands (communications (deliveries_by s.journal)) c.self.invariant.stands))
     its.0
     its.1
-    (c.add-2.ensures.lists ∙ ap (λ (l : List (List ClusterTimestamp)). with_item l c.args.second.trace c.args.second_stamp) c.add.ensures.lists)
+    (c.add_two.ensures.lists ∙ ap (with_item (with_item s.stamps.lists c.args.first.trace c.args.first_stamp) c.args.second.trace) (sym c.requires.same))
     (omega (arith, one, other)))
 
 pub returns-clause-journal : goal.returns-clause-journal

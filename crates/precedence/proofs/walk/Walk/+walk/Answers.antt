@@ -116,23 +116,23 @@ take_in_entry-returns-then-part-number_at-clause-taken g t c w over e there leve
 pub take_in_entry-returns-then-number_at-number-clause-taken :
     goal.take_in_entry-returns-then-number_at-number-clause-taken
 take_in_entry-returns-then-number_at-number-clause-taken g t c w over e there level clock =
-    let found = event_found w c.args.self.now.stamps.now.lists over.stamps c.args.trace c.args.part c.args.level c.in-Some.number c.in-Some.stamp.now c.in-Some.ensures.some in
+    let found = event_found w c.args.self.now.stamps.now.lists over.stamps c.args.trace c.args.part c.args.level c.in-Some.number c.in-Some.stamp c.in-Some.ensures.some in
     entry_taken w (c.laws.ensures w) c.args.self.now.wanted e there c.args.trace c.args.level c.args.part level clock c.args.into.now found.0 found.4 c.take_in.new.into
     (c.take_in.ensures.taken w over found.0 found.3)
 
 pub take_in_entry-returns-then-number_at-number-clause-steps :
     goal.take_in_entry-returns-then-number_at-number-clause-steps
 take_in_entry-returns-then-number_at-number-clause-steps g t c w over =
-    let found = event_found w c.args.self.now.stamps.now.lists over.stamps c.args.trace c.args.part c.args.level c.in-Some.number c.in-Some.stamp.now c.in-Some.ensures.some in
+    let found = event_found w c.args.self.now.stamps.now.lists over.stamps c.args.trace c.args.part c.args.level c.in-Some.number c.in-Some.stamp c.in-Some.ensures.some in
     let walked = c.take_in.ensures.steps w over found.0 found.3 in
     let above = c.in-Some.ensures.some.above in
-    let falls = bound_from-falls w (c.args.level + 1) c.in-Some.stamp.now.level (omega (arith, above)) in
+    let falls = bound_from-falls w (c.args.level + 1) c.in-Some.stamp.level (omega (arith, above)) in
     omega (arith, walked, falls, c.entry.ensures.steps)
 
 pub take_in_entry-returns-else-number_at-number-clause-taken :
     goal.take_in_entry-returns-else-number_at-number-clause-taken
 take_in_entry-returns-else-number_at-number-clause-taken g t c w over e there level clock =
-    let found = event_found w c.args.self.now.stamps.now.lists over.stamps c.args.trace c.args.part c.args.level c.in-Some.number c.in-Some.stamp.now c.in-Some.ensures.some in
+    let found = event_found w c.args.self.now.stamps.now.lists over.stamps c.args.trace c.args.part c.args.level c.in-Some.number c.in-Some.stamp c.in-Some.ensures.some in
     entry_known w (c.laws.ensures w) c.args.self.now.wanted e there c.args.trace c.args.level c.args.part level clock c.args.into.now found.0 found.4
     (let number = found.2 in let on = ap (λ k. slice_index c.args.into.now k) found.1 in omega (arith, number, on, c.if-number_at-number.false, c.number_at-in-Some.ensures))
 

@@ -1,3 +1,4 @@
+mod Alone
 pub mod Sets
 pub mod Leaders
 pub mod Prefixes

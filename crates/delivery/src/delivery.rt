@@ -13,11 +13,9 @@ ghost use Rattle.partner_match.specs.Waiting.{waiting_for};
 ghost use Rattle.delivery.specs.Deliveries.{AreParts};
 ghost use Rattle.delivery.specs.Leading.{entry_of};
 
-use crate::looking::{look, wake};
+use crate::looking::{enabled_of, look, wake};
 use crate::trace_set::TraceSet;
-use causal_base::{
-    Accepted, Block, Event, EventId, MOST_COLLECTORS, MOST_EVENTS, Refusal, Types, enabled_on,
-};
+use causal_base::{Accepted, Block, Event, EventId, MOST_COLLECTORS, MOST_EVENTS, Refusal, Types};
 use causal_laws::next_is_one;
 use journal::{Delivered, Journal};
 use partner_match::Matcher;
@@ -106,7 +104,7 @@ impl Delivery {
         ensures some { IfSome result (IsNext self.now.types (reverse self.now.journal)) }
         ensures none { IfNone result (HasNoNext self.now.types (reverse self.now.journal)) }
     {
-        enabled_on(&self.types, &self.journal, self.ready.lowest()?)
+        enabled_of(&self.types, &self.journal, self.ready.lowest()?)
     }
 
     /// Delivers Next, and tells which it was, or none where nothing is enabled. It takes no memory.

@@ -1,6 +1,6 @@
 //! Which traces lead, told by a look at one trace, or at those that wait.
 
-ghost use Rattle.std.specs.Prelude.{◌≡◌, ◌≢◌, ◌<◌, ◌⊎◌, ℕ, reverse, Contains};
+ghost use Rattle.std.specs.Prelude.{◌≡◌, ◌≢◌, ◌<◌, ◌⊎◌, ℕ, reverse, Contains, IfSome, IfNone};
 ghost use Rattle.causal_base.specs.declared.block.Block.{Block};
 ghost use Rattle.causal_base.specs.declared.event_id.EventId.{EventId};
 ghost use Rattle.causal_base.specs.declared.limits.TheConstants.{MOST_TRACES};
@@ -10,10 +10,34 @@ ghost use Rattle.delivery.specs.Leading.{first_trace, Leads};
 ghost use Rattle.delivery.specs.TraceSets.{IsIn};
 
 use crate::trace_set::TraceSet;
-use causal_base::{Block, EventId, Types, enabled_on};
+use causal_base::{Accepted, Block, EventId, Types, enabled_on};
 use causal_laws::next_is_one;
 use journal::Journal;
 use partner_match::Matcher;
+
+/// The enabled block that has an event of a trace, if there is one. Most events name none and go by
+/// their trace alone, so that they needn't be read for that.
+pub(crate) fn enabled_of(types: &Types, journal: &Journal, trace: u32) -> Option<Block>
+    requires history { IsHistoryOf types.now (came (reverse journal.now))
+        (deliveries (reverse journal.now)) }
+    requires trace { trace < types.now.traces }
+    ensures some { IfSome result (λ block. HasTrace block trace
+        × IsEnabled types.now (reverse journal.now) block) }
+    ensures none { IfNone result ((block : Block) → IsEnabled types.now (reverse journal.now) block
+        → HasTrace block trace → ⊥) }
+{
+    // Reading the number of traces shows that the types are a table.
+    let _traces = types.traces();
+    let id = EventId {
+        trace,
+        number: journal.delivered_on(trace) + 1,
+    };
+    match journal.names_another(id) {
+        Some(true) => enabled_on(types, journal, trace),
+        Some(false) => Some(Block::One(id)),
+        None => None,
+    }
+}
 
 /// Adds to the set the trace that leads the enabled block with an event of this trace, if there is
 /// one.
@@ -31,7 +55,7 @@ pub(crate) fn look(types: &Types, journal: &Journal, ready: &mut TraceSet, trace
     if trace >= types.traces() {
         return;
     }
-    if let Some(block) = enabled_on(types, journal, trace) {
+    if let Some(block) = enabled_of(types, journal, trace) {
         ready.insert(trace_of(block));
     }
 }

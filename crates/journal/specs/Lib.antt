@@ -1,4 +1,5 @@
 pub mod Places
 pub mod Marks
 pub mod Store
+pub mod Naming
 pub mod Delivered

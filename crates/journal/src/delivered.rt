@@ -4,8 +4,7 @@ ghost use Rattle.causal_base.specs.declared.limits.TheConstants.{MOST_TRACES};
 ghost use Rattle.journal.specs.Delivered.{delivered_at};
 
 use crate::index::place_of_order;
-use crate::journal::event_at;
-use crate::kept::Kept;
+use crate::kept::{Kept, event_at};
 use causal_base::{Event, EventId, MOST_TRACES};
 use shared_list::SharedList;
 use std::marker::Model;

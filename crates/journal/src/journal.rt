@@ -1,4 +1,4 @@
-ghost use Rattle.std.specs.Prelude.{◌≡◌, ◌+◌, ◌*◌, ◌<◌, ◌≤◌, [], ◌∷◌, ◌++◌, ℕ, length, reverse, slice_get, slice_index, Contains, Some, option_and_then, IfOk, OnOk, OnErr, vec_len, vec_capacity};
+ghost use Rattle.std.specs.Prelude.{◌≡◌, ◌+◌, ◌*◌, ◌<◌, ◌≤◌, [], ◌∷◌, ◌++◌, ℕ, length, reverse, slice_get, slice_index, Contains, Some, option_and_then, IfOk, IfSome, IfNone, OnOk, OnErr, vec_len, vec_capacity};
 ghost use Rattle.std.specs.Option.{option_copied, option_map};
 ghost use Rattle.causal_base.specs.declared.entry.Entry.TheVariants.{Came, Gone, Pair, Ended};
 ghost use Rattle.causal_base.specs.declared.event.Event.{Event};
@@ -8,13 +8,13 @@ ghost use Rattle.causal_base.specs.History.{count_on};
 ghost use Rattle.causal_base.specs.Past.{came, delivered, event_of, HasEvent};
 ghost use Rattle.journal.specs.Delivered.{AreOfJournal};
 ghost use Rattle.journal.specs.Marks.{entry_of};
+ghost use Rattle.journal.specs.Naming.{names_another};
 
+use crate::arrivals::Arrivals;
 use crate::delivered::Delivered;
 use crate::index::Index;
-use crate::kept::Kept;
 use crate::mark::Mark;
 use causal_base::{Accepted, EntryRef, Event, EventId, MOST_COLLECTORS, MOST_TRACES};
-use shared_list::SharedList;
 use std::alloc::{AllocError, Global};
 use std::marker::Model;
 
@@ -22,7 +22,7 @@ use std::marker::Model;
 /// entries, the oldest first.
 #[derive(Debug, Drop)]
 pub struct Journal {
-    events: SharedList<Kept>,
+    events: Arrivals,
     marks: Vec<Mark>,
     index: Index,
     counts: [u32; MOST_TRACES as usize],
@@ -50,7 +50,7 @@ impl Journal {
         ensures { IfOk result (λ journal. journal ≡ []) }
     {
         Ok(Journal {
-            events: SharedList::new(alloc),
+            events: Arrivals::new(alloc),
             marks: Vec::with_capacity(alloc, MOST_COLLECTORS as usize)?,
             index: Index::new(alloc)?,
             counts: no_counts(),
@@ -87,6 +87,15 @@ impl Journal {
         self.delivered
     }
 
+    /// Whether the event with this id names another, if it came. It reads a byte, and not the event.
+    pub fn names_another(&self, id: EventId) -> Option<bool>
+        ensures some { IfSome result (λ names. (e : Event)
+            × Contains (came (reverse self.now)) e × (e.id ≡ id) × (names ≡ names_another e)) }
+        ensures none { IfNone result (HasEvent (came (reverse self.now)) id → ⊥) }
+    {
+        self.events.names_another(self.index.place(id)?)
+    }
+
     /// Adds an event with a new id, which a collector brings, and takes all memory that it will
     /// need here, its delivery included. Where there is none, all is as before.
     pub fn push_came(&mut self, collector: u32, event: Event) -> Result<(), AllocError>
@@ -103,7 +112,7 @@ impl Journal {
         )?;
         self.events.reserve()?;
         self.index.insert(event.id, place)?;
-        self.events.push(Kept::new(event));
+        self.events.push(event);
         self.marks.push_reserved(Mark::Came(collector, place));
         Ok(())
     }
@@ -187,7 +196,7 @@ impl Accepted for Journal {
     }
 
     fn event(&self, id: EventId) -> Option<&Event> {
-        event_at(&self.events, self.index.place(id)?)
+        self.events.event(self.index.place(id)?)
     }
 }
 
@@ -213,29 +222,17 @@ fn make_room(marks: &mut Vec<Mark>, room: usize) -> Result<(), AllocError>
 }
 
 /// The entry that the mark at a place stands for, if there is one.
-fn entry_at<'a>(events: &'a SharedList<Kept>, marks: &[Mark], at: usize) -> Option<EntryRef<'a>>
+fn entry_at<'a>(events: &'a Arrivals, marks: &[Mark], at: usize) -> Option<EntryRef<'a>>
     ensures { option_map entry_of_ref result
         ≡ option_and_then (entry_of events.now.items) (slice_get marks.now at) }
 {
     match *marks.get(at)? {
-        Mark::Came(collector, place) => {
-            Some(EntryRef::Came(collector, event_at(events, place)?))
-        }
-        Mark::Gone(place) => Some(EntryRef::Gone(event_at(events, place)?.id)),
+        Mark::Came(collector, place) => Some(EntryRef::Came(collector, events.event(place)?)),
+        Mark::Gone(place) => Some(EntryRef::Gone(events.event(place)?.id)),
         Mark::Pair(first, second) => Some(EntryRef::Pair(
-            event_at(events, first)?.id,
-            event_at(events, second)?.id,
+            events.event(first)?.id,
+            events.event(second)?.id,
         )),
         Mark::Ended(collector) => Some(EntryRef::Ended(collector)),
-    }
-}
-
-/// The event at a place, if there is one.
-pub(crate) fn event_at(events: &SharedList<Kept>, place: u32) -> Option<&Event>
-    ensures { option_copied result ≡ slice_get events.now.items place }
-{
-    match events.get(u64::from(place)) {
-        Some(kept) => Some(kept.event()),
-        None => None,
     }
 }

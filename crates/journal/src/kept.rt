@@ -1,5 +1,8 @@
+ghost use Rattle.std.specs.Prelude.{◌≡◌, slice_get};
+ghost use Rattle.std.specs.Option.{option_copied};
+
 use causal_base::Event;
-use shared_list::Piece;
+use shared_list::{Piece, SharedList};
 use std::alloc::{AllocError, Global};
 use std::marker::Model;
 
@@ -40,5 +43,15 @@ impl Piece for Kept {
         Ok(Kept {
             event: self.event.copy(alloc)?,
         })
+    }
+}
+
+/// The event at a place, if there is one.
+pub(crate) fn event_at(events: &SharedList<Kept>, place: u32) -> Option<&Event>
+    ensures { option_copied result ≡ slice_get events.now.items place }
+{
+    match events.get(u64::from(place)) {
+        Some(kept) => Some(kept.event()),
+        None => None,
     }
 }

@@ -11,6 +11,7 @@
 pub use delivered::Delivered;
 pub use journal::Journal;
 
+mod arrivals;
 mod delivered;
 mod index;
 mod journal;

@@ -13,8 +13,8 @@ returns-in_err-lowest-clause-none c =
     subst (λ (v : TypedJournal). IfNone c.from_residual.result (HasNoNext v.types (reverse v.journal))) c.self.view_is
     (if_none c.from_residual.result (none_from_empty c.self.inside.types (came past) (deliveries past) parts.history c.self.inside.ready parts.ready_set parts.table.most_traces c.in_err-lowest.ensures.none))
 
-pub enabled_on-requires-clause-trace : goal.enabled_on-requires-clause-trace
-enabled_on-requires-clause-trace c =
+pub enabled_of-requires-clause-trace : goal.enabled_of-requires-clause-trace
+enabled_of-requires-clause-trace c =
     let past = reverse c.self.inside.journal in
     let parts = c.self.invariant.parts in
     let leads = parts.ready_set.sound c.in_ok-lowest.field-0 c.in_ok-lowest.ensures.some.0 c.in_ok-lowest.ensures.some.1 in
@@ -24,5 +24,5 @@ pub returns-clause-some : goal.returns-clause-some
 returns-clause-some c =
     let past = reverse c.self.inside.journal in
     let parts = c.self.invariant.parts in
-    subst (λ (v : TypedJournal). IfSome c.enabled_on.result (IsNext v.types (reverse v.journal))) c.self.view_is
-    (if_some_weaker c.enabled_on.result (λ block found. next_from_lowest c.self.inside.types (came past) (deliveries past) parts.history c.self.inside.ready parts.ready_set parts.table.most_traces c.in_ok-lowest.field-0 c.in_ok-lowest.ensures.some.2 block found.0 found.1) c.enabled_on.ensures.some)
+    subst (λ (v : TypedJournal). IfSome c.enabled_of.result (IsNext v.types (reverse v.journal))) c.self.view_is
+    (if_some_weaker c.enabled_of.result (λ block found. next_from_lowest c.self.inside.types (came past) (deliveries past) parts.history c.self.inside.ready parts.ready_set parts.table.most_traces c.in_ok-lowest.field-0 c.in_ok-lowest.ensures.some.2 block found.0 found.1) c.enabled_of.ensures.some)

@@ -40,7 +40,7 @@ invariant_of-self-2 c =
     let new = subst (λ (es : List Entry). HasEvent (came (reverse es)) c.args.event.id → ⊥) (sym c.self.view_is) c.requires.new in
     let place : c.len-place.result ≡ length j.events.items = c.len-place.ensures in
     let few : length j.events.items < 400_000 = (let all = length_came j.events.items j.marks.items (vec_capacity j.marks) j.index j.counts j.delivered c.self.invariant in let view = ap (λ (es : List Entry). length (came (reverse es))) c.self.view_is in omega (arith, all, view, c.requires.few)) in
-    let events : c.push.new.self.items ≡ j.events.items ++ c.args.event ∷ [] = c.push.ensures.items ∙ (ap (λ (v : Event). c.reserve.new.self.items ++ v ∷ []) c.new.ensures ∙ ap (λ (es : List Event). es ++ c.args.event ∷ []) c.reserve.ensures.items) in
+    let events : c.push.new.self.items ≡ j.events.items ++ c.args.event ∷ [] = c.push.ensures.items ∙ ap (λ (es : List Event). es ++ c.args.event ∷ []) c.reserve.ensures.items in
     let marks : c.push_reserved.new.self.items ≡ j.marks.items ++ Came c.args.collector (length j.events.items) ∷ [] =
     c.push_reserved.ensures.items ∙ (ap (λ (ms : List Mark). ms ++ Came c.args.collector c.len-place.result ∷ []) c.make_room.ensures.items ∙ ap (λ p. j.marks.items ++ Came c.args.collector p ∷ []) place) in
     subst (λ (es : List Event). IsStore es c.push_reserved.new.self.items (vec_capacity c.push_reserved.new.self) c.insert.new.self j.counts j.delivered) (sym events)
@@ -54,7 +54,7 @@ returns-clause-ok c =
     let j = c.self.inside in
     let new = subst (λ (es : List Entry). HasEvent (came (reverse es)) c.args.event.id → ⊥) (sym c.self.view_is) c.requires.new in
     let place : c.len-place.result ≡ length j.events.items = c.len-place.ensures in
-    let events : c.push.new.self.items ≡ j.events.items ++ c.args.event ∷ [] = c.push.ensures.items ∙ (ap (λ (v : Event). c.reserve.new.self.items ++ v ∷ []) c.new.ensures ∙ ap (λ (es : List Event). es ++ c.args.event ∷ []) c.reserve.ensures.items) in
+    let events : c.push.new.self.items ≡ j.events.items ++ c.args.event ∷ [] = c.push.ensures.items ∙ ap (λ (es : List Event). es ++ c.args.event ∷ []) c.reserve.ensures.items in
     let marks : c.push_reserved.new.self.items ≡ j.marks.items ++ Came c.args.collector (length j.events.items) ∷ [] =
     c.push_reserved.ensures.items ∙ (ap (λ (ms : List Mark). ms ++ Came c.args.collector c.len-place.result ∷ []) c.make_room.ensures.items ∙ ap (λ p. j.marks.items ++ Came c.args.collector p ∷ []) place) in
     ap (λ (es : List Event). entries_of es c.push_reserved.new.self.items) events

@@ -21,5 +21,3 @@ mod number;
 mod reply;
 mod reply_text;
 mod stamp;
-#[cfg(test)]
-mod tests;

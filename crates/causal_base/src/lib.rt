@@ -51,8 +51,6 @@ mod plain;
 mod refusal;
 mod related;
 mod steps;
-#[cfg(test)]
-mod tests;
 mod text;
 mod type_row;
 mod types;

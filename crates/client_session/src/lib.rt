@@ -27,6 +27,4 @@ mod replies;
 mod script;
 mod script_error;
 mod session;
-#[cfg(test)]
-mod tests;
 mod words;

@@ -32,5 +32,3 @@ mod limits;
 mod sizes;
 mod sizes_error;
 mod tallies;
-#[cfg(test)]
-mod tests;

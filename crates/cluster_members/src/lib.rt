@@ -22,5 +22,3 @@ pub use cluster_members::ClusterMembers;
 
 mod cluster_members;
 mod level_members;
-#[cfg(test)]
-mod tests;

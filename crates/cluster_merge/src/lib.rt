@@ -22,5 +22,3 @@ pub use planning::plan;
 mod applying;
 mod merge;
 mod planning;
-#[cfg(test)]
-mod tests;

@@ -15,6 +15,4 @@ mod names;
 mod options;
 mod plan;
 mod size_list;
-#[cfg(test)]
-mod tests;
 mod words;

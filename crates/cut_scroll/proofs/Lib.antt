@@ -6,4 +6,3 @@ mod Moves
 mod Nearest
 mod Halves
 mod NamedNearest
-pub mod Keeping

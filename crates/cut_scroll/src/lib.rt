@@ -16,5 +16,3 @@ mod cut;
 mod law;
 mod neighbours;
 mod reach;
-#[cfg(test)]
-mod tests;

@@ -10,6 +10,4 @@ pub use delivery::Delivery;
 
 mod delivery;
 mod looking;
-#[cfg(test)]
-mod tests;
 mod trace_set;

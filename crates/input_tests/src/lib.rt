@@ -4,6 +4,10 @@
 #![tactic(auto)]
 
 #[cfg(test)]
+mod events;
+#[cfg(test)]
+mod fields;
+#[cfg(test)]
 mod histories;
 #[cfg(test)]
 mod lines;

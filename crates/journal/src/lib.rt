@@ -17,5 +17,3 @@ mod index;
 mod journal;
 mod kept;
 mod mark;
-#[cfg(test)]
-mod tests;

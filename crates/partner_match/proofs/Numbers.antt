@@ -1,5 +1,5 @@
 -- Who waits for the events of one trace, as the map from numbers to lists has it.
-use Rattle.std.proofs.Common.{◌≡◌, ◌≢◌, ◌≤◌, ◌⊎◌, ◌↔◌, ℕ, zero, suc, length, arith, List, [], ◌∷◌, map, refl, sym, ◌∙◌, ap, subst, inl, inr, None, Some, true, false, Option}
+use Rattle.std.proofs.Common.{◌≡◌, ◌≢◌, ◌≤◌, ◌⊎◌, ◌↔◌, ℕ, zero, suc, length, arith, List, [], ◌∷◌, ◌++◌, cond, map, refl, sym, ◌∙◌, ap, subst, inl, inr, None, Some, true, false, Option}
 use Rattle.std.specs.Prelude.{Contains}
 use Rattle.std.specs.BTreeMap.{is_at}
 use Rattle.std.specs.Cmp.{Equal-is}
@@ -20,33 +20,56 @@ other_number a b ne = elim (is_at (nat_cmp a) b) as (λ t. is_at (nat_cmp a) b �
 ] refl
 
 module _ {V : Type 0} (traces : V → List ℕ) where
-  abbrev pub waits_of : List (ℕ × V) → List (ℕ × List ℕ)
-  waits_of entries = map (λ e. (e.0, traces e.1)) entries
+  -- those that wait alone, and those that wait with others
+  abbrev pub waits_of : List (ℕ × ℕ) → List (ℕ × V) → List (ℕ × List ℕ)
+  waits_of alone several = map (λ e. (e.0, e.1 ∷ [])) alone ++ map (λ e. (e.0, traces e.1)) several
 
-  -- the traces that wait are those of the value that is kept
-  pub waiting_is : (entries : List (ℕ × V)) (number : ℕ) (kept : Option V) → lookup (is_at (nat_cmp number)) entries ≡ kept → waiting_under (waits_of entries) number ≡ option_map_or traces kept []
-  waiting_is entries number kept is =
-      ap (λ o. option_map_or (λ ts. ts) o []) (lookup-map_values traces (is_at (nat_cmp number)) entries ∙ ap (option_map traces) is) ∙ mapped kept
+  -- the traces that wait, by what the two maps have
+  abbrev pub waiting_of : Option ℕ → Option V → List ℕ
+  waiting_of (Some trace) several = trace ∷ []
+  waiting_of None several = option_map_or traces several []
+
+  -- a number is looked up among those that wait alone, and then among the others
+  pub waiting_is : (alone : List (ℕ × ℕ)) (several : List (ℕ × V)) (number : ℕ)
+      → waiting_under (waits_of alone several) number ≡ waiting_of (lookup (is_at (nat_cmp number)) alone) (lookup (is_at (nat_cmp number)) several)
+  waiting_is [] several number =
+      ap (λ o. option_map_or (λ ts. ts) o []) (lookup-map_values traces (is_at (nat_cmp number)) several) ∙ mapped (lookup (is_at (nat_cmp number)) several)
     where
       mapped : (o : Option V) → option_map_or (λ ts. ts) (option_map traces o) [] ≡ option_map_or traces o []
       mapped None = refl
       mapped (Some v) = refl
+  waiting_is (e ∷ alone) several number =
+      elim (is_at (nat_cmp number) e.0) as (λ found. option_map_or (λ ts. ts) (cond found (Some (e.1 ∷ [])) (lookup (is_at (nat_cmp number)) (waits_of alone several))) []
+      ≡ waiting_of (cond found (Some e.1) (lookup (is_at (nat_cmp number)) alone)) (lookup (is_at (nat_cmp number)) several)) [
+        | true ↦ refl
+        | false ↦ waiting_is alone several number
+      ]
 
-  module _ (before after : List (ℕ × V)) (number : ℕ) where
-    -- those that wait for other numbers stay
-    pub others_stay : ((other : ℕ) → is_at (nat_cmp number) other ≡ false → lookup (is_at (nat_cmp other)) after ≡ lookup (is_at (nat_cmp other)) before) → (other : ℕ) → other ≢ number → waiting_under (waits_of after) other ≡ waiting_under (waits_of before) other
-    others_stay kept other ne =
-        waiting_is after other (lookup (is_at (nat_cmp other)) before) (kept other (other_number number other ne))
-        ∙ sym (waiting_is before other (lookup (is_at (nat_cmp other)) before) refl)
+  -- those that wait, where it is known what the two maps have
+  pub waiting_as : (alone : List (ℕ × ℕ)) (several : List (ℕ × V)) (number : ℕ) (first : Option ℕ) (kept : Option V)
+      → lookup (is_at (nat_cmp number)) alone ≡ first → lookup (is_at (nat_cmp number)) several ≡ kept
+      → waiting_under (waits_of alone several) number ≡ waiting_of first kept
+  waiting_as alone several number first kept is has =
+      waiting_is alone several number ∙ (ap (λ o. waiting_of o (lookup (is_at (nat_cmp number)) several)) is ∙ ap (waiting_of first) has)
 
-    -- one more waits for it
-    pub one_more : (old : Option V) (new : V) (trace : ℕ) → lookup (is_at (nat_cmp number)) before ≡ old → lookup (is_at (nat_cmp number)) after ≡ Some new
-        → ((other : ℕ) → Contains (traces new) other ↔ (Contains (option_map_or traces old []) other ⊎ (other ≡ trace)))
-        → (other : ℕ) → Contains (waiting_under (waits_of after) number) other ↔ (Contains (waiting_under (waits_of before) number) other ⊎ (other ≡ trace))
-    one_more old new trace was is more other = (
-      (λ inside. subst (λ ts. Contains ts other ⊎ (other ≡ trace)) (sym (waiting_is before number old was)) ((more other).0 (subst (λ ts. Contains ts other) (waiting_is after number (Some new) is) inside))),
-      (λ either. subst (λ ts. Contains ts other) (sym (waiting_is after number (Some new) is)) ((more other).1 (subst (λ ts. Contains ts other ⊎ (other ≡ trace)) (waiting_is before number old was) either))),
-    )
+  -- those that wait for other numbers stay
+  module _ (alone_before alone_after : List (ℕ × ℕ)) (several_before several_after : List (ℕ × V)) (number : ℕ) where
+    pub others_stay : ((other : ℕ) → is_at (nat_cmp number) other ≡ false → lookup (is_at (nat_cmp other)) alone_after ≡ lookup (is_at (nat_cmp other)) alone_before)
+        → ((other : ℕ) → is_at (nat_cmp number) other ≡ false → lookup (is_at (nat_cmp other)) several_after ≡ lookup (is_at (nat_cmp other)) several_before)
+        → (other : ℕ) → other ≢ number → waiting_under (waits_of alone_after several_after) other ≡ waiting_under (waits_of alone_before several_before) other
+    others_stay alone_kept several_kept other ne =
+        waiting_as alone_after several_after other (lookup (is_at (nat_cmp other)) alone_before) (lookup (is_at (nat_cmp other)) several_before)
+        (alone_kept other (other_number number other ne)) (several_kept other (other_number number other ne))
+        ∙ sym (waiting_is alone_before several_before other)
+
+-- one more waits, where it is known who waits before and after
+pub one_more : (before after was is : List ℕ) (trace : ℕ) → before ≡ was → after ≡ is
+    → ((other : ℕ) → Contains is other ↔ (Contains was other ⊎ (other ≡ trace)))
+    → (other : ℕ) → Contains after other ↔ (Contains before other ⊎ (other ≡ trace))
+one_more before after was is trace had has more other = (
+  (λ inside. subst (λ ts. Contains ts other ⊎ (other ≡ trace)) (sym had) ((more other).0 (subst (λ ts. Contains ts other) has inside))),
+  (λ either. subst (λ ts. Contains ts other) (sym has) ((more other).1 (subst (λ ts. Contains ts other ⊎ (other ≡ trace)) had either))),
+)
 
 -- a list of one trace has that one
 pub only_one : (trace other : ℕ) → Contains (trace ∷ []) other ↔ (Contains [] other ⊎ (other ≡ trace))

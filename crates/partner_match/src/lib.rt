@@ -4,6 +4,4 @@
 pub use matcher::Matcher;
 
 mod matcher;
-#[cfg(test)]
-mod tests;
 mod waiters;

@@ -37,5 +37,3 @@ pub use source::Source;
 pub use uses::Use;
 pub use writing::put;
 
-#[cfg(test)]
-mod tests;

@@ -19,6 +19,4 @@ mod numbers;
 mod relations;
 mod sizes;
 mod stamp;
-#[cfg(test)]
-mod tests;
 mod walk;

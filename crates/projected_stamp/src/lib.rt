@@ -19,5 +19,3 @@ mod new_stamp;
 mod numbers;
 mod stamp;
 mod stamps;
-#[cfg(test)]
-mod tests;

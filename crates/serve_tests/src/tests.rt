@@ -8,7 +8,7 @@ use client_session::Script;
 use cluster_levels::Sizes;
 use event_book::Desk;
 use poet_io::{Bytes, MemSource};
-use poet_serve::{ClientReport, CollectorReport, Run, Stop, serve_in_turn};
+use poet_serve::{ClientReport, CollectorReport, Line, Run, Stop, serve_in_turn};
 use std::alloc::{AllocError, Global};
 use std::test::Fail;
 use target_desc::Target;
@@ -90,44 +90,54 @@ fn is_second(report: &CollectorReport<MemSource>) -> bool {
         && matches!(report.stop, Stop::Line(error) if error.line == 5)
 }
 
-/// Whether a client was told these two replies, on so many entries.
-fn was_told(report: &ClientReport, entries: u64, first: Reply, second: Reply) -> bool {
-    match report.lines.as_slice() {
-        [one, other] => {
-            !report.memory
-                && one.at == entries
-                && one.place == 0
-                && one.reply == first
-                && other.at == entries
-                && other.place == 1
-                && other.reply == second
-        }
+/// Whether what was told is these two replies, on so many entries.
+fn was_told(lines: &[Line], entries: u64, first: &Reply, second: &Reply) -> bool {
+    match lines {
+        [one, other] => is_line(one, entries, 0, first) && is_line(other, entries, 1, second),
         _ => false,
     }
+}
+
+fn is_line(line: &Line, entries: u64, place: u32, reply: &Reply) -> bool {
+    line.at == entries && line.place == place && line.reply == *reply
+}
+
+/// Whether the two collectors report what they read.
+fn are_collected(reports: &[CollectorReport<MemSource>]) -> bool {
+    match reports {
+        [first, second] => is_first(first) && is_second(second),
+        _ => false,
+    }
+}
+
+/// Whether the client was told of what is delivered, and of an event that isn't.
+fn is_answered(reports: &[ClientReport]) -> bool {
+    let missing = Reply::NotYet(EventId {
+        trace: 0,
+        number: 2,
+    });
+    match reports {
+        [client] => !client.memory && was_told(client.lines.as_slice(), 6, &Reply::Yes, &missing),
+        _ => false,
+    }
+}
+
+/// Whether the closing script was told the counts, and that nothing more is waited for.
+fn is_closed(report: &ClientReport) -> bool {
+    let counted = Reply::Counted {
+        accepted: 2,
+        delivered: 2,
+        held: 0,
+    };
+    !report.memory && was_told(report.lines.as_slice(), 6, &counted, &Reply::Closed)
 }
 
 #[test]
 fn serves_in_turn(rt: HostRuntime) -> Result<(), Fail> {
     let target = target(rt.alloc())?;
     let run = run(rt.alloc(), &target)?;
-    let [first, second] = run.collectors.as_slice() else {
-        return Err("there aren't two collectors".into());
-    };
-    assert!(rt; is_first(first));
-    assert!(rt; is_second(second));
-    let [client] = run.clients.as_slice() else {
-        return Err("there isn't one client".into());
-    };
-    let missing = Reply::NotYet(EventId {
-        trace: 0,
-        number: 2,
-    });
-    assert!(rt; was_told(client, 6, Reply::Yes, missing));
-    let counted = Reply::Counted {
-        accepted: 2,
-        delivered: 2,
-        held: 0,
-    };
-    assert!(rt; was_told(&run.closing, 6, counted, Reply::Closed));
+    assert!(rt; are_collected(run.collectors.as_slice()));
+    assert!(rt; is_answered(run.clients.as_slice()));
+    assert!(rt; is_closed(&run.closing));
     Ok(())
 }

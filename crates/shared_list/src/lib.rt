@@ -8,6 +8,4 @@ pub use trace_lists::{TraceLists, shares};
 mod piece;
 mod shared_list;
 mod spine;
-#[cfg(test)]
-mod tests;
 mod trace_lists;

@@ -10,5 +10,3 @@ mod buffer;
 mod limits;
 mod printed;
 mod room;
-#[cfg(test)]
-mod tests;

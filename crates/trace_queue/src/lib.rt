@@ -4,5 +4,3 @@
 pub use queues::Queues;
 
 mod queues;
-#[cfg(test)]
-mod tests;

@@ -29,8 +29,6 @@ mod pass;
 mod plays;
 mod rule;
 mod stands_for;
-#[cfg(test)]
-mod tests;
 mod turn;
 mod turnstile;
 mod view;

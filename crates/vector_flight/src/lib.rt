@@ -21,5 +21,3 @@ mod limits;
 mod rule;
 mod sends;
 mod spent;
-#[cfg(test)]
-mod tests;

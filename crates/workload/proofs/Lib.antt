@@ -1,3 +1,4 @@
+pub mod Draws
 pub mod Counts
 pub mod LastSends
 pub mod Keeping

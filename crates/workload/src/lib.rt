@@ -9,6 +9,4 @@ pub use law::workload_goes_whole;
 pub use workload::Workload;
 
 mod law;
-#[cfg(test)]
-mod tests;
 mod workload;

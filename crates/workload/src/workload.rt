@@ -156,7 +156,7 @@ impl Workload {
 }
 
 /// The draw after this one.
-pub(crate) fn draw(x: u32) -> u32
+fn draw(x: u32) -> u32
     requires { x ≤ 65536 }
     ensures drawn { result ≡ drawn x }
     ensures small { result ≤ 65536 }

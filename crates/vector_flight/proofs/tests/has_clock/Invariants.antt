@@ -1,5 +1,0 @@
-use Rattle.vector_flight.proofs.tests.has_clock.Given as goal
-
--- each walk has a ledger of its own
-abbrev pub ghosts-write_clock : goal.ghosts-write_clock
-ghosts-write_clock a = record { name = a.blank.name; parts = a.blank.parts }

@@ -68,11 +68,21 @@ fn scripts(alloc: Global, target: &Target) -> Result<Vec<Script>, Fail> {
 
 /// A run of two collectors and a client, and a closing script.
 fn run(alloc: Global, target: &Target) -> Result<Run<MemSource>, Fail> {
-    let desk = desk(alloc, target)?;
-    let sources = sources(alloc)?;
     let scripts = scripts(alloc, target)?;
     let closing = script_of(alloc, target, "count\nawait 0.2\n", true)?;
-    let run = serve_in_turn(alloc, desk, target.types(), sources, &scripts, &closing);
+    run_of(alloc, target, &scripts, &closing)
+}
+
+/// A run of these scripts over the two collectors.
+fn run_of(
+    alloc: Global,
+    target: &Target,
+    scripts: &[Script],
+    closing: &Script,
+) -> Result<Run<MemSource>, Fail> {
+    let desk = desk(alloc, target)?;
+    let sources = sources(alloc)?;
+    let run = serve_in_turn(alloc, desk, target.types(), sources, scripts, closing);
     Ok(run.ok().ok_or("there is no run")?)
 }
 

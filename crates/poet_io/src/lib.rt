@@ -36,4 +36,3 @@ pub use sink::Sink;
 pub use source::Source;
 pub use uses::Use;
 pub use writing::put;
-
